@@ -1,0 +1,243 @@
+ghost use Rattle.std.specs.Prelude.{◌≡◌, ◌≤◌, ◌↔◌, ◌⊎◌, ◌∷◌, [], ℕ, IsTrue, IfOk, OnOk, Contains, length};
+ghost use Rattle.dl_base.specs.Clash.{HasClash};
+ghost use Rattle.dl_base.specs.Ontologies.{Knows};
+ghost use Rattle.dl_base.specs.Patterns.{Matches};
+ghost use Rattle.dl_base.specs.Validity.{IsValid};
+ghost use Rattle.dl_base.specs.declared.patterns.Pattern as pattern_type;
+ghost use Rattle.dl_base.specs.declared.patterns.Pattern.TheVariants as asked;
+ghost use Rattle.dl_base.specs.declared.statements.Fact as fact_type;
+ghost use Rattle.dl_base.specs.declared.statements.Fact.TheVariants as fact;
+ghost use Rattle.dl_base.specs.declared.terms.RoleSide.TheVariants.{Direct, Inverse};
+ghost use Rattle.conflict_rules.specs.Counts.{naming, AreAdded};
+ghost use Rattle.conflict_rules.specs.Guards.{RolesMeet, RolesBound};
+ghost use Rattle.conflict_rules.specs.RoleGuards.{IsRoleGuardAt, IsOtherGuardAt, IsKindGuardAt, AreRoleGuardsBelow};
+
+use crate::conflicts::Conflicts;
+use dl_base::{Basic, Name, OutOfMemory, Pattern, RoleSide, Term};
+use std::alloc::Global;
+
+impl Conflicts {
+    /// The patterns of the facts that clash with the role fact.
+    pub fn guards_of_role(
+        &self,
+        alloc: Global,
+        role: Term,
+        from: &Name,
+        to: &Name,
+    ) -> Result<Vec<Pattern>, OutOfMemory>
+        requires valid { IsValid self.now.axioms }
+        requires alone { ¬ HasClash self.now.axioms (fact.Role role from.now to.now ∷ []) }
+        ensures exact { IfOk result (λ guards. (g : fact_type.Fact) → Knows self.now g → ¬ HasClash self.now.axioms (g ∷ [])
+            → ((p : pattern_type.Pattern) × Contains guards.items p × Matches p g) ↔ HasClash self.now.axioms (fact.Role role from.now to.now ∷ g ∷ [])) }
+        ensures few { IfOk result (λ guards. (n : ℕ) → naming n guards.items ≤ 8) }
+    {
+        let guards = self.all_role_guards(alloc, role, from, to)?;
+        Ok(guards)
+    }
+
+    fn all_role_guards(
+        &self,
+        alloc: Global,
+        role: Term,
+        from: &Name,
+        to: &Name,
+    ) -> Result<Vec<Pattern>, OutOfMemory>
+        ensures { IfOk result (λ guards. AreRoleGuardsBelow self.now role from.now to.now (length self.now.terms) guards.items) }
+    {
+        let mut guards = Vec::new(alloc);
+        for number in 0..self.terms() {
+            self.add_at(alloc, role, from, to, Term(number as u32), &mut guards)?;
+        }
+        Ok(guards)
+    }
+
+    fn add_at(
+        &self,
+        alloc: Global,
+        role: Term,
+        from: &Name,
+        to: &Name,
+        term: Term,
+        guards: &mut Vec<Pattern>,
+    ) -> Result<(), OutOfMemory>
+        ensures { OnOk result (AreAdded (IsKindGuardAt self.now role from.now to.now term) term.0 8 guards.old.items guards.new.items) }
+    {
+        if self.is_role(term) {
+            self.add_role_guards(alloc, role, from, to, term, guards)?;
+            return Ok(());
+        }
+        self.add_other_guards(alloc, role, from, to, term, guards)?;
+        Ok(())
+    }
+
+    fn add_role_guards(
+        &self,
+        alloc: Global,
+        role: Term,
+        from: &Name,
+        to: &Name,
+        term: Term,
+        guards: &mut Vec<Pattern>,
+    ) -> Result<(), OutOfMemory>
+        ensures { OnOk result (AreAdded (IsRoleGuardAt self.now.axioms role from.now to.now term) term.0 8 guards.old.items guards.new.items) }
+    {
+        self.add_from(
+            alloc,
+            from,
+            Basic::Exists(RoleSide::Direct(role)),
+            term,
+            guards,
+        )?;
+        self.add_to(
+            alloc,
+            from,
+            Basic::Exists(RoleSide::Direct(role)),
+            term,
+            guards,
+        )?;
+        self.add_from(
+            alloc,
+            to,
+            Basic::Exists(RoleSide::Inverse(role)),
+            term,
+            guards,
+        )?;
+        self.add_to(
+            alloc,
+            to,
+            Basic::Exists(RoleSide::Inverse(role)),
+            term,
+            guards,
+        )?;
+        self.add_both(
+            alloc,
+            role,
+            from,
+            to,
+            RoleSide::Direct(term),
+            RoleSide::Inverse(term),
+            term,
+            guards,
+        )?;
+        self.add_both(
+            alloc,
+            role,
+            to,
+            from,
+            RoleSide::Inverse(term),
+            RoleSide::Direct(term),
+            term,
+            guards,
+        )?;
+        self.add_from_except(alloc, role, from, to, term, guards)?;
+        self.add_to_except(alloc, role, from, to, term, guards)?;
+        Ok(())
+    }
+
+    fn add_other_guards(
+        &self,
+        alloc: Global,
+        role: Term,
+        from: &Name,
+        to: &Name,
+        term: Term,
+        guards: &mut Vec<Pattern>,
+    ) -> Result<(), OutOfMemory>
+        ensures { OnOk result (AreAdded (IsOtherGuardAt self.now.axioms role from.now to.now term) term.0 4 guards.old.items guards.new.items) }
+    {
+        self.add_class(
+            alloc,
+            from,
+            Basic::Exists(RoleSide::Direct(role)),
+            term,
+            guards,
+        )?;
+        self.add_attr(
+            alloc,
+            from,
+            Basic::Exists(RoleSide::Direct(role)),
+            term,
+            guards,
+        )?;
+        self.add_class(
+            alloc,
+            to,
+            Basic::Exists(RoleSide::Inverse(role)),
+            term,
+            guards,
+        )?;
+        self.add_attr(
+            alloc,
+            to,
+            Basic::Exists(RoleSide::Inverse(role)),
+            term,
+            guards,
+        )?;
+        Ok(())
+    }
+
+    fn either_meets(&self, role: Term, one: RoleSide, other: RoleSide) -> bool
+        ensures { IsTrue result ↔ (RolesMeet self.now.axioms (Direct role) one ⊎ RolesMeet self.now.axioms (Inverse role) other) }
+    {
+        if self.roles_meet(RoleSide::Direct(role), one) {
+            return true;
+        }
+        self.roles_meet(RoleSide::Inverse(role), other)
+    }
+
+    fn add_both(
+        &self,
+        alloc: Global,
+        role: Term,
+        from: &Name,
+        to: &Name,
+        one: RoleSide,
+        other: RoleSide,
+        term: Term,
+        guards: &mut Vec<Pattern>,
+    ) -> Result<(), OutOfMemory>
+        ensures { OnOk result (AreAdded (λ p. (p ≡ asked.RoleBoth term from.now to.now) × (RolesMeet self.now.axioms (Direct role) one ⊎ RolesMeet self.now.axioms (Inverse role) other)) term.0 1 guards.old.items guards.new.items) }
+    {
+        if !self.either_meets(role, one, other) {
+            return Ok(());
+        }
+        guards.push(Pattern::RoleBoth(term, from.copy(alloc)?, to.copy(alloc)?))?;
+        Ok(())
+    }
+
+    fn add_from_except(
+        &self,
+        alloc: Global,
+        role: Term,
+        from: &Name,
+        to: &Name,
+        term: Term,
+        guards: &mut Vec<Pattern>,
+    ) -> Result<(), OutOfMemory>
+        ensures { OnOk result (AreAdded (λ p. (p ≡ asked.RoleFromExcept term from.now to.now) × RolesBound self.now.axioms (Direct role) (Direct term)) term.0 1 guards.old.items guards.new.items) }
+    {
+        if !self.roles_bound(RoleSide::Direct(role), RoleSide::Direct(term)) {
+            return Ok(());
+        }
+        guards.push(Pattern::RoleFromExcept(term, from.copy(alloc)?, to.copy(alloc)?))?;
+        Ok(())
+    }
+
+    fn add_to_except(
+        &self,
+        alloc: Global,
+        role: Term,
+        from: &Name,
+        to: &Name,
+        term: Term,
+        guards: &mut Vec<Pattern>,
+    ) -> Result<(), OutOfMemory>
+        ensures { OnOk result (AreAdded (λ p. (p ≡ asked.RoleToExcept term to.now from.now) × RolesBound self.now.axioms (Inverse role) (Inverse term)) term.0 1 guards.old.items guards.new.items) }
+    {
+        if !self.roles_bound(RoleSide::Inverse(role), RoleSide::Inverse(term)) {
+            return Ok(());
+        }
+        guards.push(Pattern::RoleToExcept(term, to.copy(alloc)?, from.copy(alloc)?))?;
+        Ok(())
+    }
+}

@@ -1,0 +1,6 @@
+use Rattle.dl_base.specs.Picks.{Collects}
+use Rattle.entail_guards.specs.Following.{FollowsAt}
+use Rattle.entail_guards.proofs.entailers.Entailers.gather.Given as goal
+
+abbrev pub invariant-loop-number : goal.invariant-loop-number
+invariant-loop-number l = Collects (FollowsAt l.self.axioms l.given) l.number l.facts.items

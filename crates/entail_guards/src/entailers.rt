@@ -1,0 +1,103 @@
+ghost use Rattle.std.specs.Prelude.{◌≡◌, ◌↔◌, ◌⊎◌, ◌≤◌, ◌∷◌, [], IsTrue, length};
+ghost use Rattle.dl_base.specs.Derivation.{InClosure};
+ghost use Rattle.dl_base.specs.Ontologies.{IsKnown};
+ghost use Rattle.dl_base.specs.Reach.{ConceptReaches};
+ghost use Rattle.dl_base.specs.Clash.{RoleReaches};
+ghost use Rattle.dl_base.specs.declared.terms.Basic.TheVariants as basic;
+ghost use Rattle.dl_base.specs.declared.terms.RoleSide.TheVariants.{Direct};
+ghost use Rattle.entail_guards.specs.Entailing.{EntailsClass, EntailsRole, EntailsAttr};
+
+use dl_base::{Basic, Fact, Name, RoleSide, Term, Value};
+use std::marker::Model;
+use tbox_closure::Implied;
+
+/// What single facts entail under an ontology.
+#[derive(Drop)]
+pub struct Entailers {
+    implied: Implied,
+}
+
+impl Model for Entailers {
+    ghost use Rattle.dl_base.specs.Ontologies.{Theory};
+
+    ghost Value = { Theory };
+
+    ghost view = { λ e. e.implied };
+}
+
+impl Entailers {
+    pub fn of(implied: Implied) -> Entailers
+        ensures { result ≡ implied }
+    {
+        Entailers { implied }
+    }
+
+    pub fn terms(&self) -> usize
+        ensures count { result ≡ length self.now.terms }
+        ensures small { result ≤ 4000 }
+        ensures known { IsKnown self.now }
+    {
+        self.implied.terms()
+    }
+
+    /// Whether the closure of the first fact holds the second.
+    pub fn entails(&self, first: &Fact, second: &Fact) -> bool
+        ensures { IsTrue result ↔ InClosure self.now.axioms (first.now ∷ []) second.now }
+    {
+        match second {
+            Fact::Class(class, name) => self.entails_class(first, *class, name),
+            Fact::Role(role, from, to) => self.entails_role(first, *role, from, to),
+            Fact::Attr(attr, from, value) => self.entails_attr(first, *attr, from, value),
+        }
+    }
+
+    fn entails_class(&self, given: &Fact, class: Term, name: &Name) -> bool
+        ensures { IsTrue result ↔ EntailsClass self.now.axioms given.now class name.now }
+    {
+        match given {
+            Fact::Class(t, a) => name.is(a) && self.reaches_class(Basic::Class(*t), class),
+            Fact::Role(p, a, b) => {
+                if name.is(a) && self.reaches_class(Basic::Exists(RoleSide::Direct(*p)), class) {
+                    return true;
+                }
+                name.is(b) && self.reaches_class(Basic::Exists(RoleSide::Inverse(*p)), class)
+            }
+            Fact::Attr(u, a, _) => name.is(a) && self.reaches_class(Basic::Domain(*u), class),
+        }
+    }
+
+    fn reaches_class(&self, from: Basic, class: Term) -> bool
+        ensures { IsTrue result ↔ ConceptReaches self.now.axioms from (basic.Class class) }
+    {
+        self.implied.concept(from, Basic::Class(class))
+    }
+
+    fn entails_role(&self, given: &Fact, role: Term, from: &Name, to: &Name) -> bool
+        ensures { IsTrue result ↔ EntailsRole self.now.axioms given.now role from.now to.now }
+    {
+        match given {
+            Fact::Role(q, a, b) => {
+                if from.is(a) && to.is(b) && self.reaches_role(RoleSide::Direct(*q), role) {
+                    return true;
+                }
+                from.is(b) && to.is(a) && self.reaches_role(RoleSide::Inverse(*q), role)
+            }
+            _ => false,
+        }
+    }
+
+    fn reaches_role(&self, from: RoleSide, role: Term) -> bool
+        ensures { IsTrue result ↔ RoleReaches self.now.axioms from (Direct role) }
+    {
+        self.implied.role(from, RoleSide::Direct(role))
+    }
+
+    fn entails_attr(&self, given: &Fact, attr: Term, from: &Name, value: &Value) -> bool
+        ensures { IsTrue result ↔ EntailsAttr self.now.axioms given.now attr from.now value.now }
+    {
+        match given {
+            Fact::Attr(u, a, v) => from.is(a) && value.is(v) && self.implied.attr(*u, attr),
+            _ => false,
+        }
+    }
+}

@@ -1,0 +1,6 @@
+use Rattle.std.proofs.Common.{◌≡◌, take}
+use Rattle.tbox_closure.specs.Edges as edge
+use Rattle.tbox_closure.proofs.gathering.gather.Given as goal
+
+abbrev pub invariant-loop-it : goal.invariant-loop-it
+invariant-loop-it l = l.pairs.items ≡ edge.all_pairs l.part (take l.it-index l.axioms)

@@ -1,0 +1,7 @@
+use Rattle.dl_laws.proofs.Emptying.{empty_attr_is}
+use Rattle.tbox_closure.proofs.implied.Implied.empty_attr.Goals as goal
+
+pub returns : goal.returns
+returns c =
+    let law = empty_attr_is c.args.self.now.axioms c.args.attr in
+    (λ h. law.1 (c.is_torn.ensures.0 h), λ e. c.is_torn.ensures.1 (law.0 e))

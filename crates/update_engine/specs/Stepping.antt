@@ -1,0 +1,37 @@
+-- What a step answers.
+use Rattle.std.specs.Prelude.{◌≡◌, ◌↔◌, ⊤, ℕ, List, Some, slice_get, ◌∷◌, [], Contains}
+use Rattle.dl_base.specs.declared.axioms.Axiom.{Axiom}
+use Rattle.dl_base.specs.declared.statements.Fact.{Fact}
+use Rattle.dl_base.specs.declared.patterns.Pattern.{Pattern}
+use Rattle.dl_base.specs.Clash.{IsConsistent}
+use Rattle.dl_base.specs.Derivation.{InClosure}
+use Rattle.dl_base.specs.Patterns.{Matches}
+use Rattle.dl_base.specs.Updates.{Lists, IsRemoved, IsPut, IsStored, IsLost, Updates}
+use Rattle.update_engine.specs.declared.answers.StepRefusal.{StepRefusal}
+use Rattle.update_engine.specs.declared.answers.StepRefusal.TheVariants as refusal
+use Rattle.update_engine.specs.Judging.{IsNamed}
+
+-- f is held and matches the pattern at k
+abbrev pub FoundAt : List Pattern → List Fact → ℕ → Fact → Type 0
+FoundAt patterns facts k f = (p : Pattern) × (slice_get patterns k ≡ Some p) × Contains facts f × Matches p f
+
+-- f is held and matches one of the patterns
+abbrev pub IsFound : List Pattern → List Fact → Fact → Type 0
+IsFound patterns facts f = Contains facts f × ((p : Pattern) × Contains patterns p × Matches p f)
+
+-- f is entailed by the removed fact at k
+abbrev pub FollowsFrom : List Axiom → List Fact → ℕ → Fact → Type 0
+FollowsFrom axioms removed k f = (g : Fact) × (slice_get removed k ≡ Some g) × InClosure axioms (g ∷ []) f
+
+-- what is removed, put, added and lost, and that what is stored afterwards updates the old facts and is consistent
+pub record IsStep (axioms : List Axiom) (old inserts deletes gone come more less : List Fact) : Type 0 where
+  pub removed : Lists (IsRemoved axioms old inserts deletes) gone
+  pub put : Lists (IsPut axioms old inserts deletes) come
+  pub added : Lists (λ f. IsStored axioms old inserts deletes f × ¬ Contains old f) more
+  pub after : (new : List Fact) → ((f : Fact) → Contains new f ↔ IsStored axioms old inserts deletes f)
+      → Updates axioms old inserts deletes new × IsConsistent axioms new × Lists (IsLost axioms old new) less
+
+-- the request is ill-formed, and named so; of memory nothing is told
+abbrev pub IsRefusal : List Axiom → List Fact → List Fact → StepRefusal → Type 0
+IsRefusal axioms inserts deletes (refusal.IllFormed name) = IsNamed axioms inserts deletes name
+IsRefusal axioms inserts deletes refusal.OutOfMemory = ⊤

@@ -1,0 +1,144 @@
+ghost use Rattle.std.specs.Prelude.{◌≡◌, ◌+◌, ◌↔◌, ◌⊎◌, ◌∷◌, [], IfOk, Contains, length};
+ghost use Rattle.dl_base.specs.Clash.{HasClash};
+ghost use Rattle.dl_base.specs.Ontologies.{Knows};
+ghost use Rattle.dl_base.specs.Patterns.{Matches};
+ghost use Rattle.dl_base.specs.Picks.{Collects, Picks};
+ghost use Rattle.dl_base.specs.Updates.{IsWellFormed, Lists, Meets};
+ghost use Rattle.dl_base.specs.declared.patterns.Pattern as pattern_type;
+ghost use Rattle.dl_base.specs.declared.statements.Fact as fact_type;
+ghost use Rattle.update_engine.specs.Stepping.{FoundAt, IsFound, FollowsFrom};
+
+use crate::meeting::meets;
+use crate::rules::Rules;
+use dl_base::{Fact, FactSet, OutOfMemory, Pattern, Steps, Term, sorted_once};
+use std::alloc::Global;
+use std::sync::ledger::Ledger;
+
+/// The facts of the set that match one of the patterns, in order.
+pub fn found<S: FactSet, L: Ledger>(
+    alloc: Global,
+    patterns: &[Pattern],
+    set: &S,
+    steps: &mut Steps<L>,
+) -> Result<Vec<Fact>, OutOfMemory>
+    ensures { IfOk result (λ facts. Lists (IsFound patterns.now (S.facts set.now)) facts.items) }
+{
+    let facts = find_all(alloc, patterns, set, steps)?;
+    Ok(sorted_once(facts)?)
+}
+
+fn find_all<S: FactSet, L: Ledger>(
+    alloc: Global,
+    patterns: &[Pattern],
+    set: &S,
+    steps: &mut Steps<L>,
+) -> Result<Vec<Fact>, OutOfMemory>
+    ensures found { IfOk result (λ facts. Collects (FoundAt patterns.now (S.facts set.now)) (length patterns.now) facts.items) }
+    ensures counted { IfOk result (λ facts. steps.new ≡ steps.old + length patterns.now + length facts.items) }
+{
+    let mut facts = Vec::new(alloc);
+    for pattern in patterns {
+        facts.append(&mut set.find(alloc, pattern, steps)?)?;
+    }
+    Ok(facts)
+}
+
+/// Patterns of all facts that the ontology knows.
+pub fn all_patterns(alloc: Global, rules: &Rules) -> Result<Vec<Pattern>, OutOfMemory>
+    ensures { IfOk result (λ patterns. (f : fact_type.Fact) → Knows rules.now f → (p : pattern_type.Pattern) × Contains patterns.items p × Matches p f) }
+{
+    let mut patterns = Vec::new(alloc);
+    for number in 0..rules.terms() {
+        patterns.push(Pattern::Class(Term(number as u32)))?;
+        patterns.push(Pattern::Role(Term(number as u32)))?;
+        patterns.push(Pattern::Attr(Term(number as u32)))?;
+    }
+    Ok(patterns)
+}
+
+/// The facts that meet the request.
+pub fn meeting(
+    alloc: Global,
+    rules: &Rules,
+    inserts: &[Fact],
+    deletes: &[Fact],
+    facts: &[Fact],
+) -> Result<Vec<Fact>, OutOfMemory>
+    requires well { IsWellFormed rules.now.axioms inserts.now deletes.now }
+    requires alone { (f : fact_type.Fact) → Contains facts.now f → ¬ HasClash rules.now.axioms (f ∷ []) }
+    ensures { IfOk result (λ picked. Picks (Meets rules.now.axioms inserts.now deletes.now) facts.now picked.items) }
+{
+    let mut picked = Vec::new(alloc);
+    for fact in facts {
+        if meets(rules, inserts, deletes, fact) {
+            picked.push(fact.copy(alloc)?)?;
+        }
+    }
+    Ok(picked)
+}
+
+/// The facts that don't.
+pub fn staying(
+    alloc: Global,
+    rules: &Rules,
+    inserts: &[Fact],
+    deletes: &[Fact],
+    facts: &[Fact],
+) -> Result<Vec<Fact>, OutOfMemory>
+    requires well { IsWellFormed rules.now.axioms inserts.now deletes.now }
+    requires alone { (f : fact_type.Fact) → Contains facts.now f → ¬ HasClash rules.now.axioms (f ∷ []) }
+    ensures { IfOk result (λ picked. Picks (λ f. ¬ Meets rules.now.axioms inserts.now deletes.now f) facts.now picked.items) }
+{
+    let mut picked = Vec::new(alloc);
+    for fact in facts {
+        if !meets(rules, inserts, deletes, fact) {
+            picked.push(fact.copy(alloc)?)?;
+        }
+    }
+    Ok(picked)
+}
+
+/// The facts that the set doesn't have.
+pub fn unheld<S: FactSet, L: Ledger>(
+    alloc: Global,
+    set: &S,
+    facts: &[Fact],
+    steps: &mut Steps<L>,
+) -> Result<Vec<Fact>, OutOfMemory>
+    ensures picked { IfOk result (λ picked. Picks (λ f. ¬ Contains (S.facts set.now) f) facts.now picked.items) }
+    ensures counted { IfOk result (λ picked. steps.new ≡ steps.old + length facts.now) }
+{
+    let mut picked = Vec::new(alloc);
+    for fact in facts {
+        if !set.has(fact, steps) {
+            picked.push(fact.copy(alloc)?)?;
+        }
+    }
+    Ok(picked)
+}
+
+/// What the removed facts entail.
+pub fn followers(alloc: Global, rules: &Rules, removed: &[Fact]) -> Result<Vec<Fact>, OutOfMemory>
+    requires { (f : fact_type.Fact) → Contains removed.now f → Knows rules.now f }
+    ensures { IfOk result (λ facts. Collects (FollowsFrom rules.now.axioms removed.now) (length removed.now) facts.items) }
+{
+    let mut facts = Vec::new(alloc);
+    for fact in removed {
+        facts.append(&mut rules.follows(alloc, fact)?)?;
+    }
+    Ok(facts)
+}
+
+/// The facts with copies of the insertions.
+pub fn with_inserts(
+    alloc: Global,
+    inserts: &[Fact],
+    mut facts: Vec<Fact>,
+) -> Result<Vec<Fact>, OutOfMemory>
+    ensures { IfOk result (λ put. (f : fact_type.Fact) → Contains put.items f ↔ (Contains facts.items f ⊎ Contains inserts.now f)) }
+{
+    for fact in inserts {
+        facts.push(fact.copy(alloc)?)?;
+    }
+    Ok(facts)
+}

@@ -1,0 +1,66 @@
+ghost use Rattle.std.specs.Prelude.{IfOk, IfErr, Contains};
+ghost use Rattle.dl_base.specs.Clash.{IsConsistent};
+ghost use Rattle.dl_base.specs.Ontologies.{Knows};
+ghost use Rattle.dl_base.specs.Updates.{IsWellFormed};
+ghost use Rattle.dl_base.specs.declared.statements.Fact as fact_type;
+ghost use Rattle.update_engine.specs.Stepping.{IsStep, IsRefusal};
+
+use crate::answers::{Step, StepRefusal};
+use crate::judging::judge;
+use crate::picking::{all_patterns, followers, found, meeting, staying, unheld, with_inserts};
+use crate::rules::Rules;
+use dl_base::{Fact, FactSet, OutOfMemory, Steps, sorted_once};
+use std::alloc::Global;
+use std::sync::ledger::Ledger;
+
+/// The step of a request, or where it contradicts itself.
+pub fn step<S: FactSet, L: Ledger>(
+    alloc: Global,
+    rules: &Rules,
+    set: &S,
+    inserts: &[Fact],
+    deletes: &[Fact],
+    steps: &mut Steps<L>,
+) -> Result<Step, StepRefusal>
+    requires consistent { IsConsistent rules.now.axioms (S.facts set.now) }
+    requires known { (f : fact_type.Fact) → Contains (S.facts set.now) f → Knows rules.now f }
+    ensures well { IfOk result (λ s. IsWellFormed rules.now.axioms inserts.now deletes.now) }
+    ensures done { IfOk result (λ s. IsStep rules.now.axioms (S.facts set.now) inserts.now deletes.now s.removed.items s.put.items s.added.items s.lost.items) }
+    ensures refused { IfErr result (IsRefusal rules.now.axioms inserts.now deletes.now) }
+{
+    if let Err(refusal) = judge(rules, inserts, deletes) {
+        return Err(StepRefusal::IllFormed(refusal));
+    }
+    let made = take_step(alloc, rules, set, inserts, deletes, steps)?;
+    Ok(made)
+}
+
+/// The step of a well-formed request.
+fn take_step<S: FactSet, L: Ledger>(
+    alloc: Global,
+    rules: &Rules,
+    set: &S,
+    inserts: &[Fact],
+    deletes: &[Fact],
+    steps: &mut Steps<L>,
+) -> Result<Step, OutOfMemory>
+    requires well { IsWellFormed rules.now.axioms inserts.now deletes.now }
+    requires consistent { IsConsistent rules.now.axioms (S.facts set.now) }
+    requires known { (f : fact_type.Fact) → Contains (S.facts set.now) f → Knows rules.now f }
+    ensures { IfOk result (λ s. IsStep rules.now.axioms (S.facts set.now) inserts.now deletes.now s.removed.items s.put.items s.added.items s.lost.items) }
+{
+    let patterns = all_patterns(alloc, rules)?;
+    let held = found(alloc, patterns.as_slice(), set, steps)?;
+    let removed = meeting(alloc, rules, inserts, deletes, held.as_slice())?;
+    let entailed = sorted_once(followers(alloc, rules, removed.as_slice())?)?;
+    let lost = meeting(alloc, rules, inserts, deletes, entailed.as_slice())?;
+    let survivors = staying(alloc, rules, inserts, deletes, entailed.as_slice())?;
+    let put = sorted_once(with_inserts(alloc, inserts, survivors)?)?;
+    let added = unheld(alloc, set, put.as_slice(), steps)?;
+    Ok(Step {
+        removed,
+        put,
+        added,
+        lost,
+    })
+}
