@@ -1,15 +1,18 @@
 -- At each place of raw text stands one piece at most.
-use Rattle.std.proofs.Common.{◌≡◌, ◌≢◌, ◌<◌, ℕ, List, [], ◌∷◌, ◌++◌, length, Option, Some, refl, sym, ap, subst, ◌∙◌, append_assoc, arith}
-use Rattle.std.specs.Prelude.{All}
+use Rattle.std.proofs.Common.{◌≡◌, ◌≢◌, ◌<◌, ℕ, List, [], ◌∷◌, ◌++◌, length, Option, Some, None, Bool, true, false, if◌then◌else◌, ◌==◌, refl, sym, ap, subst, ◌∙◌, append_assoc, arith}
+use Rattle.std.specs.Prelude.{All, codes, nat_lt}
 use Rattle.std.specs.Char.{encode_utf8}
-use Rattle.std.specs.List.{flat_map}
+use Rattle.std.specs.List.{flat_map, list_any, list_all}
+use Rattle.std.proofs.lemmas.Bool.{false≢true}
+use Rattle.std.proofs.lemmas.Bool.Decides.{nat_tests}
+use Rattle.std.proofs.lemmas.Option.{none-some}
 use Rattle.std.proofs.lemmas.Str.{encode_ascii}
 use Rattle.std.proofs.lemmas.List.{append-nil}
 use Rattle.std.proofs.lemmas.List.Elements.{All-head, All-tail}
 use Rattle.dl_text.specs.Going.{Goes, stop, go}
-use Rattle.dl_text.specs.Escapes.{backslash, short_of, width_of, Stands, plain, short, coded, joined, Undoes}
+use Rattle.dl_text.specs.Escapes.{backslash, is_local_escape, short_of, width_of, Stands, plain, short, coded, joined, Undoes}
 use Rattle.dl_text.specs.declared.escapes.Escapes.{Escapes}
-use Rattle.dl_text.specs.declared.escapes.Escapes.TheVariants.{Iri, Full, Owl}
+use Rattle.dl_text.specs.declared.escapes.Escapes.TheVariants.{Iri, Full, Owl, Local}
 use Rattle.dl_text.proofs.GoingLaws.{goes_append, goes_push, goes_through, goes_cases}
 
 same_some : {X : Type 0} (o : Option X) (x y : X) → o ≡ Some x → o ≡ Some y → x ≡ y
@@ -19,6 +22,7 @@ same_some o x y h k = cc
 pub apart : (rule : Escapes) (e b n : ℕ) → short_of rule e ≡ Some b → width_of rule e ≡ Some n → ⊥
 apart Iri e b n h k = cc
 apart Owl e b n h k = cc
+apart Local e b n h k = cc
 apart Full e b n h k = grind arith
 
 same_front : (ds es x y : List ℕ) → length ds ≡ length es → ds ++ x ≡ es ++ y → (ds ≡ es) × (x ≡ y)
@@ -30,9 +34,20 @@ same_front (a ∷ ds) (b ∷ es) x y l e =
     let head : a ≡ b = cc in
     (ap (λ z. z ∷ ds) head ∙ ap (λ zs. b ∷ zs) on.0, on.1)
 
+-- where a value is given only if a test holds, it holds
+given : (t : Bool) (e b : ℕ) → (if t then Some e else None) ≡ Some b → (t ≡ true) × (e ≡ b)
+given true e b h = (refl, same_some (Some b) e b (sym h) refl)
+given false e b h = absurd (none-some b h)
+
+-- what is among numbers below 128 is below 128
+among_below : (e : ℕ) (cs : List ℕ) → list_all (λ c. nat_lt c 128) cs ≡ true → list_any (λ c. e == c) cs ≡ true → e < 128
+among_below e [] a h = absurd (false≢true h)
+among_below e (c ∷ cs) a h = grind (arith, nat_tests, among_below e cs)
+
 below : (rule : Escapes) (e b : ℕ) → short_of rule e ≡ Some b → b < 128
 below Iri e b h = cc
 below Owl e b h = grind arith
+below Local e b h = let is = given (is_local_escape e) e b h in let low = among_below e (codes "_~.-!$&'()*+,;=/?#@%") refl is.0 in omega (arith, is.1, low)
 below Full e b h = grind arith
 
 pub short_character : (rule : Escapes) (e b : ℕ) → short_of rule e ≡ Some b → encode_utf8 b ≡ b ∷ []

@@ -7,7 +7,7 @@ use Rattle.std.proofs.lemmas.List.Elements.{All-weaker}
 use Rattle.dl_text.specs.Going.{Goes}
 use Rattle.dl_text.specs.Escapes.{backslash, Stands, Undoes}
 use Rattle.dl_text.specs.Iris.{is_iri_byte, IsIri}
-use Rattle.dl_text.specs.Outcomes.{IriText, ReadsIri, ReadsString, IsNamed, IsUndone, longest_iri, longest_text}
+use Rattle.dl_text.specs.Outcomes.{IriText, ReadsIri, ReadsString, IsNamed, IsUndone, NamesIri, longest_iri, longest_text}
 use Rattle.dl_text.specs.declared.escapes.Escapes.{Escapes}
 use Rattle.dl_text.specs.declared.escapes.Escapes.TheVariants.{Iri}
 use Rattle.dl_text.specs.declared.faults.TextFault.{TextFault}
@@ -35,6 +35,18 @@ iri_named escapes raw text (Err NameTooLong) t i n = (text, t, i, n)
 iri_named escapes raw text (Err OutOfMemory) t i n = tt
 iri_named escapes raw text (Err BadLiteral) t i n = absurd n
 iri_named escapes raw text (Err UnknownPrefix) t i n = absurd n
+
+pub iri_undone : (escapes : Bool) (raw text : List ℕ) → escapes ≡ true → Undoes Iri raw text → IriText escapes raw text
+iri_undone escapes raw text e u = subst (λ b. IriText b raw text) (sym e) u
+
+pub iri_given : (escapes : Bool) (raw text : List ℕ) (r : Result (List ℕ) TextFault) → IriText escapes raw text → NamesIri text r → ReadsIri escapes raw r
+iri_given escapes raw text (Ok name) t n = (subst (IriText escapes raw) (sym n.0) t, subst IsIri (sym n.0) n.1, subst (λ m. length m ≤ longest_iri) (sym n.0) n.2)
+iri_given escapes raw text (Err BadIri) t n = (text, t, n)
+iri_given escapes raw text (Err NameTooLong) t n = (text, t, n.0, n.1)
+iri_given escapes raw text (Err OutOfMemory) t n = tt
+iri_given escapes raw text (Err BadEscape) t n = absurd n
+iri_given escapes raw text (Err BadLiteral) t n = n
+iri_given escapes raw text (Err UnknownPrefix) t n = n
 
 pub iri_not_undone : (escapes : Bool) (raw : List ℕ) (f : TextFault) → escapes ≡ true → IsUndone Iri raw (Err f) → ReadsIri escapes raw (Err f)
 iri_not_undone true raw BadEscape e u = u

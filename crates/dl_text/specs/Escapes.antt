@@ -1,18 +1,23 @@
 -- What raw text stands for once its escapes are undone.
-use Rattle.std.specs.Prelude.{◌≡◌, ◌≢◌, ℕ, List, [], ◌∷◌, ◌++◌, length, Option, Some, None, if◌then◌else◌, ◌==◌}
+use Rattle.std.specs.Prelude.{◌≡◌, ◌≢◌, ℕ, List, [], ◌∷◌, ◌++◌, length, Option, Some, None, Bool, if◌then◌else◌, ◌==◌, codes}
 use Rattle.std.specs.Char.{IsScalar, encode_utf8}
 use Rattle.std.specs.Str.Parse.{AllDigits, digits_value}
-use Rattle.std.specs.List.{flat_map}
+use Rattle.std.specs.List.{flat_map, list_any}
 use Rattle.dl_text.specs.Going.{Goes}
 use Rattle.dl_text.specs.declared.escapes.Escapes.{Escapes}
-use Rattle.dl_text.specs.declared.escapes.Escapes.TheVariants.{Iri, Full, Owl}
+use Rattle.dl_text.specs.declared.escapes.Escapes.TheVariants.{Iri, Full, Owl, Local}
 
 abbrev pub backslash : ℕ
 backslash = 92
 
+-- the bytes that a backslash may stand before in a local part: PN_LOCAL_ESC of SPARQL 1.1
+abbrev pub is_local_escape : ℕ → Bool
+is_local_escape e = list_any (λ c. e == c) (codes "_~.-!$&'()*+,;=/?#@%")
+
 -- the byte that a backslash and this byte stand for
 abbrev pub short_of : Escapes → ℕ → Option ℕ
 short_of Iri e = None
+short_of Local e = if is_local_escape e then Some e else None
 short_of Owl e = if e == 34 then Some 34 else if e == 92 then Some 92 else None
 short_of Full e =
     if e == 34 then Some 34 else if e == 92 then Some 92 else if e == 39 then Some 39
@@ -22,6 +27,7 @@ short_of Full e =
 -- how many digits follow a backslash and this byte: four behind u, eight behind U
 abbrev pub width_of : Escapes → ℕ → Option ℕ
 width_of Owl mark = None
+width_of Local mark = None
 width_of Iri mark = if mark == 117 then Some 4 else if mark == 85 then Some 8 else None
 width_of Full mark = if mark == 117 then Some 4 else if mark == 85 then Some 8 else None
 

@@ -29,6 +29,16 @@ ReadsIri escapes raw (Err OutOfMemory) = Unit {0}
 ReadsIri escapes raw (Err BadLiteral) = ⊥
 ReadsIri escapes raw (Err UnknownPrefix) = ⊥
 
+-- the name is this text, which is an IRI
+abbrev pub NamesIri : List ℕ → Result (List ℕ) TextFault → Type 0
+NamesIri text (Ok name) = (name ≡ text) × IsIri text × (length text ≤ longest_iri)
+NamesIri text (Err BadIri) = ¬ IsIri text
+NamesIri text (Err NameTooLong) = IsIri text × (longest_iri < length text)
+NamesIri text (Err OutOfMemory) = Unit {0}
+NamesIri text (Err BadEscape) = ⊥
+NamesIri text (Err BadLiteral) = ⊥
+NamesIri text (Err UnknownPrefix) = ⊥
+
 -- the answer with its value seen by view
 abbrev pub seen : {X Y E : Type 0} → (X → Y) → Result X E → Result Y E
 seen view (Ok x) = Ok (view x)

@@ -1,18 +1,46 @@
 ghost use Rattle.std.specs.Prelude.{◌≡◌, ◌≤◌, ℕ, List, ◌∷◌, length, MatchOption, OnOk, ◌<◌, ◌++◌};
 ghost use Rattle.std.specs.Char.{digit_value, encode_utf8};
-ghost use Rattle.dl_text.specs.Escapes.{short_of, width_of, backslash, Names, Stands};
+ghost use Rattle.dl_text.specs.Escapes.{is_local_escape, short_of, width_of, backslash, Names, Stands};
 ghost use Rattle.dl_text.specs.Outcomes.{IsUndone, seen};
 
 use crate::faults::TextFault;
 use crate::places::cut_at;
 use std::alloc::{AllocError, Global};
 
-/// Which escapes a text may have.
+/// Which escapes a text may have: those of IRIs and of strings in N-Triples and in updates, of strings in ontologies, or of local parts in updates.
 #[derive(Clone, Copy, Debug, PartialEq, Eq)]
 pub enum Escapes {
     Iri,
     Full,
     Owl,
+    Local,
+}
+
+fn is_local_escape(e: u8) -> bool
+    ensures { result ≡ is_local_escape e }
+{
+    matches!(
+        e,
+        b'_' | b'~'
+            | b'.'
+            | b'-'
+            | b'!'
+            | b'$'
+            | b'&'
+            | b'\''
+            | b'('
+            | b')'
+            | b'*'
+            | b'+'
+            | b','
+            | b';'
+            | b'='
+            | b'/'
+            | b'?'
+            | b'#'
+            | b'@'
+            | b'%'
+    )
 }
 
 fn short_of(rule: Escapes, e: u8) -> Option<u8>
@@ -20,6 +48,7 @@ fn short_of(rule: Escapes, e: u8) -> Option<u8>
 {
     match (rule, e) {
         (Escapes::Iri, _) => None,
+        (Escapes::Local, _) => is_local_escape(e).then_some(e),
         (_, b'"') => Some(b'"'),
         (_, b'\\') => Some(b'\\'),
         (Escapes::Owl, _) => None,
@@ -37,7 +66,7 @@ fn width_of(rule: Escapes, mark: u8) -> Option<usize>
     ensures { result ≡ width_of rule mark }
 {
     match (rule, mark) {
-        (Escapes::Owl, _) => None,
+        (Escapes::Owl | Escapes::Local, _) => None,
         (_, b'u') => Some(4),
         (_, b'U') => Some(8),
         _ => None,

@@ -1,11 +1,17 @@
 ghost use Rattle.std.specs.Prelude.{◌≡◌};
-ghost use Rattle.dl_text.specs.Outcomes.{IsNamed, ReadsIri, ReadsString, seen, rule_of};
+ghost use Rattle.dl_text.specs.Outcomes.{IsNamed, NamesIri, ReadsIri, ReadsString, seen, rule_of};
 
 use crate::escapes::{Escapes, undo};
 use crate::faults::TextFault;
 use crate::iris::is_iri;
 use dl_base::Name;
 use std::alloc::Global;
+
+/// The bytes of the longest IRI.
+pub const LONGEST_IRI: usize = 4096;
+
+/// The bytes of the longest text of a literal.
+pub const LONGEST_TEXT: usize = 65_536;
 
 /// Which escapes a literal's text has.
 #[derive(Clone, Copy, Debug, PartialEq, Eq)]
@@ -27,12 +33,23 @@ fn name_of(alloc: Global, text: &[u8], longest: usize) -> Result<Name, TextFault
     }
 }
 
+/// The name of an IRI.
+pub fn iri_name(alloc: Global, text: &[u8]) -> Result<Name, TextFault>
+    ensures { NamesIri text.now result }
+{
+    if is_iri(text) {
+        name_of(alloc, text, LONGEST_IRI)
+    } else {
+        Err(TextFault::BadIri)
+    }
+}
+
 /// The IRI between `<` and `>`.
 pub fn read_iri(alloc: Global, bytes: &[u8], escapes: bool) -> Result<Name, TextFault>
     ensures { ReadsIri escapes bytes.now result }
 {
     if is_iri(bytes) {
-        return name_of(alloc, bytes, 4096);
+        return name_of(alloc, bytes, LONGEST_IRI);
     }
     if !escapes {
         return Err(TextFault::BadIri);
@@ -41,11 +58,7 @@ pub fn read_iri(alloc: Global, bytes: &[u8], escapes: bool) -> Result<Name, Text
         Ok(text) => text,
         Err(fault) => return Err(fault),
     };
-    if is_iri(text.as_slice()) {
-        name_of(alloc, text.as_slice(), 4096)
-    } else {
-        Err(TextFault::BadIri)
-    }
+    iri_name(alloc, text.as_slice())
 }
 
 fn rule_of(rule: StringRule) -> Escapes
@@ -62,7 +75,7 @@ pub fn read_string(alloc: Global, bytes: &[u8], rule: StringRule) -> Result<Name
     ensures { ReadsString (rule_of rule) bytes.now result }
 {
     match undo(alloc, bytes, rule_of(rule)) {
-        Ok(text) => name_of(alloc, text.as_slice(), 65536),
+        Ok(text) => name_of(alloc, text.as_slice(), LONGEST_TEXT),
         Err(fault) => Err(fault),
     }
 }
