@@ -1,5 +1,5 @@
 -- Terms by name: the keys of a set in the order of the terms.
-use Rattle.std.proofs.Common.{◌≡◌, ℕ, zero, suc, ◌<◌, ◌≤◌, ◌+◌, Bool, true, false, not, cond, ◌||◌, List, [], ◌∷◌, ◌++◌, Some, None, length, take, drop, get_or, map, position, refl, sym, ◌∙◌, ap, subst, arith, ⊎_elim}
+use Rattle.std.proofs.Common.{◌⊎◌, inl, inr, ◌≡◌, ℕ, zero, suc, ◌<◌, ◌≤◌, ◌+◌, Bool, true, false, not, cond, ◌||◌, List, [], ◌∷◌, ◌++◌, Some, None, length, take, drop, get_or, map, position, refl, sym, ◌∙◌, ap, subst, arith, ⊎_elim}
 use Rattle.std.specs.Prelude.{slice_get, nat_eq, nat_lt, Vec}
 use Rattle.std.specs.Option.{option_map}
 use Rattle.std.specs.List.{position_or_len, list_any}
@@ -7,12 +7,18 @@ use Rattle.std.specs.Cmp.Lexicographic.{pointwise, same_text, other_text}
 use Rattle.std.proofs.lemmas.Bool.{false≢true, ltb-true, ltb-false}
 use Rattle.std.proofs.lemmas.List.{map-append, take-append-drop, length-map, length-take-le}
 use Rattle.std.proofs.lemmas.List.Sums.{passes_at_first, fails_before_first}
-use Rattle.std.proofs.lemmas.Option.{slice_get-map, slice_get_within, slice_get_cases, slice_get_read}
+use Rattle.std.proofs.lemmas.Option.{slice_get-map, slice_get_within, slice_get_cases, slice_get_read, get_or_from_slice_get}
 use Rattle.dl_base.specs.declared.terms.Kind.{Kind}
-use Rattle.dl_base.specs.Ontologies.{AreNamedOnce}
-use Rattle.dl_base.specs.Vocabularies.{names_of, AreNumbered, bare, HasNoTerm}
+use Rattle.std.specs.Prelude.{Contains, All}
+use Rattle.std.proofs.lemmas.List.Elements.{Contains-append_left, All-contains}
+use Rattle.dl_base.specs.declared.axioms.Axiom.{Axiom}
+use Rattle.dl_base.specs.declared.refusals.OntologyRefusal.{OntologyRefusal}
+use Rattle.dl_base.specs.declared.refusals.OntologyRefusal.TheVariants as refusal
+use Rattle.dl_base.specs.Ontologies.{Theory, KnowsAxiom, IsKnown, AreNamedOnce}
+use Rattle.dl_base.specs.Validity.{IsValid, IsOntology}
+use Rattle.dl_base.specs.Vocabularies.{names_of, AreNumbered, bare, HasNoTerm, IsFirstRepeat, IsFirstUnknown, IsFirstSpecialised, IsRefused}
 use Rattle.dl_base.proofs.Places.{get_left, get_cases}
-use Rattle.dl_base.proofs.VocabularyLaws.{take_on}
+use Rattle.dl_base.proofs.VocabularyLaws.{take_on, valid_none_twice, none_twice_valid}
 
 position_found : {X : Type 0} (p : X → Bool) (xs : List X) (i : ℕ) (b : Bool) → nat_lt (position_or_len p xs) (length xs) ≡ b
     → cond b (Some (position_or_len p xs)) None ≡ Some i → (position_or_len p xs ≡ i) × (b ≡ true)
@@ -146,3 +152,38 @@ module _ {A : Type 0} (terms : List (List ℕ × Kind)) (keys : List (Vec ℕ A)
         subst (λ zs. AreNumbered zs more) (sym on) (subst (λ zs. AreNumbered (take i terms ++ t ∷ []) zs) (sym longer) (numbered_more (take i terms) keys t k num bytes)),
         subst (λ zs. AreNamedOnce (bare zs)) (sym on) (once_more (take i terms) t once (λ j e. none_at k.items keys fresh j (ap (λ (zs : List (List ℕ)). slice_get zs j) num ∙ e ∙ ap Some (sym bytes)))),
       )
+
+-- what is refused makes no ontology
+module _ (theory : Theory) where
+  named_twice : (i : ℕ) → IsFirstRepeat theory.terms i → ¬ AreNamedOnce theory
+  named_twice i h once =
+      let (j, name, l, e, f) = h.here in
+      ⊎_elim
+      (λ (s, m, g, u). ⊎_elim
+          (λ (t, n, k, v). once j i s t l g k (first j name s e g ∙ sym (first i name t f k)))
+          (λ (n, k). nowhere i name f k)
+          (slice_get_cases theory.terms i).1)
+      (λ (m, g). nowhere j name e g)
+      (slice_get_cases theory.terms j).1
+    where
+      first : (k : ℕ) (name : List ℕ) (t : List ℕ × Kind) → slice_get (names_of theory.terms) k ≡ Some name → slice_get theory.terms k ≡ Some t → t.0 ≡ name
+      first k name t e g = some_is t.0 name (sym (ap (option_map (λ (z : List ℕ × Kind). z.0)) g) ∙ sym (slice_get-map (λ (z : List ℕ × Kind). z.0) theory.terms k) ∙ e)
+      nowhere : (k : ℕ) (name : List ℕ) → slice_get (names_of theory.terms) k ≡ Some name → slice_get theory.terms k ≡ None → ⊥
+      nowhere k name e g = let bad : None ≡ Some name = sym (ap (option_map (λ (z : List ℕ × Kind). z.0)) g) ∙ sym (slice_get-map (λ (z : List ℕ × Kind). z.0) theory.terms k) ∙ e in cc
+
+  unknown_at : (i : ℕ) → IsFirstUnknown theory i → ¬ IsKnown theory
+  unknown_at i h known = let (a, e, n) = h.here in n (All-contains (KnowsAxiom theory) theory.axioms a known (i, slice_get_within theory.axioms i a e, get_or_from_slice_get theory.axioms i a a e))
+
+  from_take : (n : ℕ) (a : Axiom) → Contains (take n theory.axioms) a → Contains theory.axioms a
+  from_take n a m = subst (λ (zs : List Axiom). Contains zs a) (take-append-drop n theory.axioms) (Contains-append_left (take n theory.axioms) (drop n theory.axioms) a m)
+
+  specialised_at : (i : ℕ) → IsFirstSpecialised theory.axioms i → ¬ IsValid theory.axioms
+  specialised_at i h valid = h.here (none_twice_valid (take (i + 1) theory.axioms) (λ p f s.
+      valid_none_twice theory.axioms valid p (f.0, from_take (i + 1) f.0 f.1, f.2) (s.0, from_take (i + 1) s.0 s.1, s.2)))
+
+  pub no_ontology : (r : OntologyRefusal) → IsRefused theory r → (r ≡ refusal.OutOfMemory) ⊎ ¬ IsOntology theory
+  no_ontology refusal.TooManyTerms h = inr (λ o. let few = o.few in omega (arith, h, few))
+  no_ontology (refusal.TwoKinds i) h = inr (λ o. named_twice i h.1 o.named_once)
+  no_ontology (refusal.BadAxiom i) h = inr (λ o. unknown_at i h.2 o.known)
+  no_ontology (refusal.FunctionalSpecialised i) h = inr (λ o. specialised_at i h.3 o.valid)
+  no_ontology refusal.OutOfMemory h = inl refl

@@ -1,0 +1,5 @@
+pub mod Answers
+pub mod FirstForm
+pub mod Gathering
+pub mod Held
+pub mod PlainNames
