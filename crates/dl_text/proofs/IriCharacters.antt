@@ -1,6 +1,6 @@
 -- The rule of IRIs says the same of the bytes of a text as of its characters.
-use Rattle.std.proofs.Common.{◌≡◌, ◌≢◌, ◌<◌, ◌≤◌, ◌↔◌, ◌+◌, ◌/◌, ◌%◌, ℕ, List, [], ◌∷◌, ◌++◌, Bool, true, false, cond, IsTrue, refl, sym, ap, subst, ◌∙◌, ◌⊎◌, inl, inr, ⊎_elim, ltb, arith}
-use Rattle.std.specs.Prelude.{All, nat_lt}
+use Rattle.std.proofs.Common.{◌≡◌, ◌≤◌, ◌↔◌, ◌+◌, ◌/◌, ◌%◌, ℕ, List, [], ◌∷◌, ◌++◌, Bool, true, false, cond, IsTrue, sym, subst, ◌∙◌, ⊎_elim, ltb, arith}
+use Rattle.std.specs.Prelude.{All}
 use Rattle.std.specs.Char.{is_ascii_alphabetic}
 use Rattle.std.specs.Str.{encode_utf8_all}
 use Rattle.std.proofs.Math.Utf8.{encode}
@@ -9,7 +9,7 @@ use Rattle.std.proofs.lemmas.Bool.{cases_eq, cases_lt, false≢true}
 use Rattle.std.proofs.lemmas.Bool.Decides.{nat_tests}
 use Rattle.std.proofs.lemmas.List.Elements.{All-nil, All-cons, All-head, All-tail, All-append, All-weaker}
 use Rattle.dl_text.specs.Iris.{is_iri_byte, is_scheme_byte, HasScheme, IsAbsolute, IsIri}
-use Rattle.dl_text.proofs.IriLaws.{has_more, has_now, has_less, has_none}
+use Rattle.dl_text.proofs.IriLaws.{has_more, has_now, has_less}
 
 abbrev pub IsClean : ℕ → Type 0
 IsClean b = IsTrue (is_iri_byte b)

@@ -1,12 +1,12 @@
 -- A literal has one value at most, and a value is the value of its own parts.
-use Rattle.std.proofs.Common.{◌≡◌, ◌≢◌, ℕ, List, [], ◌∷◌, Result, Ok, Err, get_or, refl, sym, ap, subst, ◌∙◌, ◌⊎◌, inl, inr, ⊎_elim, arith}
-use Rattle.std.specs.Prelude.{codes, map}
+use Rattle.std.proofs.Common.{◌≡◌, ◌≢◌, ℕ, List, [], ◌∷◌, Result, Ok, Err, get_or, refl, sym, ap, subst, ◌∙◌, inl, inr, arith}
+use Rattle.std.specs.Prelude.{map}
 use Rattle.std.specs.Char.{to_ascii_lowercase}
 use Rattle.std.proofs.lemmas.Bool.Decides.{nat_tests}
 use Rattle.dl_base.specs.declared.names.Value.{Value}
 use Rattle.dl_text.proofs.IntegerLaws.{integer_again}
 use Rattle.dl_text.specs.Values.{IsInteger, integer_text, IsMade}
-use Rattle.dl_text.specs.Namespaces.{xsd_integer, xsd_boolean, xsd_string, lang_string}
+use Rattle.dl_text.specs.Namespaces.{xsd_integer, xsd_boolean, xsd_string}
 use Rattle.dl_text.specs.Literals.{datatype_of, datatype_or_string, IsYes, IsNo, IsTruth, Spells, integer, boolean, other, SpellsTruth, SpellsText, IsValueOf, ReadsValue}
 use Rattle.dl_text.specs.declared.faults.TextFault.{TextFault}
 use Rattle.dl_text.specs.declared.faults.TextFault.TheVariants.{BadIri, BadEscape, BadLiteral, NameTooLong, UnknownPrefix, OutOfMemory}

@@ -1,6 +1,6 @@
-use Rattle.std.proofs.Common.{sym, subst, Err}
+use Rattle.std.proofs.Common.{subst, Err}
 use Rattle.std.proofs.lemmas.Result.{err_from_is_err_and}
-use Rattle.dl_text.specs.Literals.{datatype_of, SpellsText}
+use Rattle.dl_text.specs.Literals.{SpellsText}
 use Rattle.dl_text.proofs.LiteralLaws.{not_spelled}
 use Rattle.dl_text.proofs.literals.canonical_value.Goals as goal
 

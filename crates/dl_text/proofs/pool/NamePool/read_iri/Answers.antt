@@ -1,5 +1,4 @@
-use Rattle.dl_text.proofs.ReadingLaws.{iri_text, iri_named}
-use Rattle.std.proofs.Common.{Ok}
+use Rattle.dl_text.proofs.ReadingLaws.{iri_text}
 use Rattle.dl_text.proofs.pool.NamePool.read_iri.Goals as goal
 
 pub returns-then-is_iri : goal.returns-then-is_iri

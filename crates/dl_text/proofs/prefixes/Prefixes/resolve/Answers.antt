@@ -1,5 +1,4 @@
-use Rattle.std.proofs.Common.{List, ℕ, ◌++◌, sym, subst, ap, ◌∙◌, Some}
-use Rattle.std.specs.Option.{option_copied}
+use Rattle.std.proofs.Common.{List, ℕ, ◌++◌, sym, subst}
 use Rattle.std.proofs.lemmas.Result.{err_from_is_err_and}
 use Rattle.dl_text.specs.Outcomes.{NamesIri}
 use Rattle.dl_text.proofs.PrefixLaws.{resolved, local_undone, local_plain, undoing_failed}
