@@ -1,0 +1,9 @@
+pub mod Shapes
+pub mod Cutting
+pub mod Runs
+pub mod Tokens
+pub mod Trees
+pub mod Grammar
+pub mod Names
+pub mod Outcomes
+pub mod Reading
