@@ -160,14 +160,15 @@ module _ (theory : Theory) where
       let (j, name, l, e, f) = h.here in
       ⊎_elim
       (λ (s, m, g, u). ⊎_elim
-          (λ (t, n, k, v). once j i s t l g k (first j name s e g ∙ sym (first i name t f k)))
-          (λ (n, k). nowhere i name f k)
-          (slice_get_cases theory.terms i).1)
+      (λ (t, n, k, v). once j i s t l g k (first j name s e g ∙ sym (first i name t f k)))
+      (λ (n, k). nowhere i name f k)
+      (slice_get_cases theory.terms i).1)
       (λ (m, g). nowhere j name e g)
       (slice_get_cases theory.terms j).1
     where
       first : (k : ℕ) (name : List ℕ) (t : List ℕ × Kind) → slice_get (names_of theory.terms) k ≡ Some name → slice_get theory.terms k ≡ Some t → t.0 ≡ name
       first k name t e g = some_is t.0 name (sym (ap (option_map (λ (z : List ℕ × Kind). z.0)) g) ∙ sym (slice_get-map (λ (z : List ℕ × Kind). z.0) theory.terms k) ∙ e)
+
       nowhere : (k : ℕ) (name : List ℕ) → slice_get (names_of theory.terms) k ≡ Some name → slice_get theory.terms k ≡ None → ⊥
       nowhere k name e g = let bad : None ≡ Some name = sym (ap (option_map (λ (z : List ℕ × Kind). z.0)) g) ∙ sym (slice_get-map (λ (z : List ℕ × Kind). z.0) theory.terms k) ∙ e in cc
 

@@ -53,7 +53,7 @@ differ i a b xs ys h k n e = n (sym h ∙ ap (λ (zs : List ℕ). get_or zs i 0)
 abbrev Head : Type 0
 Head = List ℕ
 
-one_one : (head tail c d m n : List ℕ) → IsPlainName c → IsPlainName d → head ++ after_one c tail m ≡ head ++ after_one d tail n → (c ≡ d) × (m ≡ n)
+pub one_one : (head tail c d m n : List ℕ) → IsPlainName c → IsPlainName d → head ++ after_one c tail m ≡ head ++ after_one d tail n → (c ≡ d) × (m ≡ n)
 one_one head tail c d m n h k e =
     let cut = cut_once c d (tail ++ m) (tail ++ n) (no_end c h) (no_end d k) (same_rest head (after_one c tail m) (after_one d tail n) e) in
     (cut.0, same_rest tail m n cut.1)

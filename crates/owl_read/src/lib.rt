@@ -6,5 +6,6 @@ mod plain_names;
 mod reading;
 mod terms;
 
-pub use plain_names::{after, is_plain_name, name_before};
+pub use lines::one_name;
+pub use plain_names::{is_plain_name, name_before};
 pub use reading::{ReadOntology, read_ontology};

@@ -34,7 +34,7 @@ pub fn line_at(text: &[u8]) -> Option<(Line<'_>, &[u8])>
 }
 
 /// The name between the head and `>` with the tail, and what stands behind.
-fn one_name<'b>(text: &'b [u8], head: &[u8], tail: &[u8]) -> Option<(&'b [u8], &'b [u8])>
+pub fn one_name<'b>(text: &'b [u8], head: &[u8], tail: &[u8]) -> Option<(&'b [u8], &'b [u8])>
     ensures { MatchOption result
         ((name rest : List ℕ) → IsPlainName name → text.now ≢ head.now ++ after_one name tail.now rest)
         (λ cut. IsPlainName cut.0.now × (text.now ≡ head.now ++ after_one cut.0.now tail.now cut.1.now)) }

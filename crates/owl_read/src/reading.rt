@@ -1,4 +1,6 @@
-ghost use Rattle.std.specs.Prelude.{◌≡◌, ◌↔◌, List, IsTrue, IfOk, MatchOption};
+ghost use Rattle.std.specs.Prelude.{◌≡◌, ◌↔◌, List, Contains, IsTrue, IfOk, MatchOption};
+ghost use Rattle.dl_base.specs.Ontologies.{Knows};
+ghost use Rattle.dl_base.specs.declared.statements.Fact as fact_type;
 ghost use Rattle.owl_read.specs.FirstForm as form;
 ghost use Rattle.owl_read.specs.FirstForm.{IsDocument, closing};
 ghost use Rattle.owl_read.specs.Gathering.{gathered};
@@ -66,15 +68,31 @@ fn made(alloc: Global, gathering: Gathering) -> Result<ReadOntology, FirstRefusa
         axioms,
         facts,
     } = gathering;
-    let facts = once(alloc, facts.as_slice())?;
-    match Ontology::of(alloc, terms, axioms) {
-        Ok(ontology) => Ok(ReadOntology {
-            ontology,
-            facts,
-            skipped: 0,
-        }),
-        Err(refusal) => Err(unmade(refusal)),
+    let ontology = match Ontology::of(alloc, terms, axioms) {
+        Ok(ontology) => ontology,
+        Err(refusal) => return Err(unmade(refusal)),
+    };
+    if !knows_all(&ontology, facts.as_slice()) {
+        return Err(FirstRefusal::NotBuiltYet);
     }
+    let facts = once(alloc, facts.as_slice())?;
+    Ok(ReadOntology {
+        ontology,
+        facts,
+        skipped: 0,
+    })
+}
+
+/// Whether the ontology knows all the facts.
+fn knows_all(ontology: &Ontology, facts: &[Fact]) -> bool
+    ensures { IsTrue result ↔ ((f : fact_type.Fact) → Contains facts.now f → Knows ontology.now f) }
+{
+    for fact in facts {
+        if !ontology.knows(fact) {
+            return false;
+        }
+    }
+    true
 }
 
 /// The refusal of a text whose terms and axioms make no ontology.
