@@ -1,7 +1,8 @@
 -- Lists of guards, a pattern at a time.
-use Rattle.std.proofs.Common.{◌≡◌, ◌≢◌, ℕ, ◌<◌, ◌≤◌, ◌+◌, cond, length, List, [], ◌∷◌, ◌++◌, refl, sym, ap, subst, inl, inr, ◌⊎◌, ⊎_elim, arith}
+use Rattle.std.proofs.Common.{◌≡◌, ◌≢◌, ℕ, ◌<◌, ◌≤◌, ◌+◌, ◌*◌, cond, length, List, [], ◌∷◌, ◌++◌, refl, sym, ap, subst, inl, inr, ◌⊎◌, ⊎_elim, arith}
 use Rattle.std.specs.Prelude.{Contains, ◌↔◌, nat_eq}
 use Rattle.std.proofs.lemmas.Bool.{cases_lt}
+use Rattle.std.proofs.lemmas.List.{length_push}
 use Rattle.std.proofs.lemmas.Bool.Decides.{eqb_tells}
 use Rattle.std.proofs.lemmas.List.Sums.{sum_by-append}
 use Rattle.std.proofs.lemmas.List.Elements.{Contains-append_left, Contains-append_right, Contains-push_cases}
@@ -34,12 +35,14 @@ added_one Q it old q one = record {
     (λ s. ⊎_elim (λ h. Contains-append_left old (it ∷ []) p h) (λ h. Contains-append_right old (it ∷ []) p (subst (Contains (it ∷ [])) (sym (one p h)) (here it []))) s),
   );
   few = λ n. let e = sum_by-append (λ (p : Pattern). cond (nat_eq (pattern_term p) n) 1 0) old (it ∷ []) in omega (arith, e);
+  size = let e = length_push old it in omega (arith, e);
 }
 
 pub added_none : (Q : Pattern → Type 0) (m : ℕ) (old : List Pattern) → ((p : Pattern) → ¬ Q p) → AreAdded Q m 1 old old
 added_none Q m old none = record {
   each = λ p. ((λ h. inl h), (λ s. ⊎_elim (λ h. h) (λ h. absurd (none p h)) s));
   few = λ n. omega arith;
+  size = omega arith;
 }
 
 pub added_both : (Q R : Pattern → Type 0) (m j k : ℕ) (a b c : List Pattern) → AreAdded Q m j a b → AreAdded R m k b c → AreAdded (λ p. Q p ⊎ R p) m (j + k) a c
@@ -52,27 +55,29 @@ added_both Q R m j k a b c one two = record {
       (λ (t : (one_if m n ≡ 1) × (m ≡ n)). let e : one_if m n ≡ 1 = t.0 in let z = rw e at x in let w = rw e at y in rw e (omega (arith, z, w)))
       (λ (t : (one_if m n ≡ 0) × (m ≢ n)). let e : one_if m n ≡ 0 = t.0 in let z = rw e at x in let w = rw e at y in rw e (omega (arith, z, w)))
       (one_tells m n);
+  size = omega (arith, one.size, two.size);
 }
 
-module _ (axioms : List Axiom) (a : List ℕ) (b : Basic) where
-  -- the loop over the terms
-  pub below_none : AreGuardsBelow axioms a b 0 []
+-- the loop over the terms
+module _ (Q : Term → Pattern → Type 0) (most : ℕ) where
+  pub below_none : AreGuardsBelow Q most 0 []
   below_none = record {
     each = λ p. ((λ h. absurd (omega (arith, h.1))), (λ h. absurd (omega (arith, h.1))));
     few = λ n. omega arith;
     none = λ n l. refl;
+    size = omega arith;
   }
 
   term_at : (t : Term) (n : ℕ) → t.0 ≡ n → t ≡ record { 0 = n }
   term_at t n h = ap (λ (k : ℕ). record { 0 = k }) h
 
-  pub below_next : (number : ℕ) (old new : List Pattern) → AreGuardsBelow axioms a b number old → AreAdded (IsGuardAt axioms a b (record { 0 = number })) number 4 old new → AreGuardsBelow axioms a b (number + 1) new
+  pub below_next : (number : ℕ) (old new : List Pattern) → AreGuardsBelow Q most number old → AreAdded (Q (record { 0 = number })) number most old new → AreGuardsBelow Q most (number + 1) new
   below_next number old new h add = record {
     each = λ p. (
       (λ m. ⊎_elim (λ x. let t = (h.each p).0 x in (t.0, omega (arith, t.1), t.2)) (λ x. (record { 0 = number }, omega arith, x)) ((add.each p).0 m)),
       (λ (t, l, q). (add.each p).1 (⊎_elim
           (λ less. inl ((h.each p).1 (t, less, q)))
-          (λ least. let e : t.0 ≡ number = omega (arith, l, least) in inr (subst (λ (z : Term). IsGuardAt axioms a b z p) (term_at t number e) q))
+          (λ least. let e : t.0 ≡ number = omega (arith, l, least) in inr (subst (λ (z : Term). Q z p) (term_at t number e) q))
           (cases_lt t.0 number))),
     );
     few = λ n. let x = add.few n in let y = h.few n in ⊎_elim
@@ -83,6 +88,7 @@ module _ (axioms : List Axiom) (a : List ℕ) (b : Basic) where
         (λ t. absurd (omega (arith, t.1, l)))
         (λ t. let e : one_if number n ≡ 0 = t.0 in let z = rw e at x in omega (arith, z, y))
         (one_tells number n);
+    size = omega (arith, add.size, h.size);
   }
 
 abbrev pub fact_term : Fact → ℕ
@@ -160,7 +166,7 @@ module _ (axioms : List Axiom) (a : List ℕ) (b : Basic) where
   guard_at (asked.AttrOfExcept n x v) (u, e, h) = cc
 
 -- the guards of a class fact
-pub class_guards : (theory : Theory) (k : Term) (a : List ℕ) (guards : List Pattern) → AreGuardsBelow theory.axioms a (basic.Class k) (length theory.terms) guards
+pub class_guards : (theory : Theory) (k : Term) (a : List ℕ) (guards : List Pattern) → AreGuardsBelow (IsGuardAt theory.axioms a (basic.Class k)) 4 (length theory.terms) guards
     → ¬ HasClash theory.axioms (fact.Class k a ∷ []) → (g : Fact) → Knows theory g → ¬ HasClash theory.axioms (g ∷ [])
     → ((p : Pattern) × Contains guards p × Matches p g) ↔ HasClash theory.axioms (fact.Class k a ∷ g ∷ [])
 class_guards theory k a guards h one g knows two =

@@ -14,11 +14,12 @@ use Rattle.dl_base.specs.Patterns.{Matches}
 use Rattle.dl_base.specs.Clash.{HasClash}
 use Rattle.dl_base.proofs.Members.{here, alone}
 use Rattle.dl_laws.specs.Rows.{Start, OfAttr}
-use Rattle.conflict_rules.specs.Guards.{AttrsMeet, AttrsBound, IsGuard}
-use Rattle.conflict_rules.specs.Counts.{pattern_term, one_if, AreAdded}
-use Rattle.conflict_rules.specs.AttrGuards.{IsAttrGuardAt, AreAttrGuardsBelow}
+use Rattle.dl_laws.specs.Meeting.{AreDisjointAttrs, ShareFunctionalAttr}
+use Rattle.conflict_rules.specs.Guards.{IsGuard}
+use Rattle.conflict_rules.specs.Counts.{pattern_term, AreGuardsBelow}
+use Rattle.conflict_rules.specs.AttrGuards.{IsAttrGuardAt}
 use Rattle.conflict_rules.proofs.Guarding.{guards_exact}
-use Rattle.conflict_rules.proofs.Adding.{one_tells, same_term, in_range}
+use Rattle.conflict_rules.proofs.Adding.{same_term, in_range}
 
 module _ (axioms : List Axiom) (u : Term) (a : List ℕ) (v : Value) where
   attr_guard : (t : Term) (x : Pattern) → IsAttrGuardAt axioms u a v t x → IsGuard axioms (OfAttr a v u) x
@@ -45,35 +46,13 @@ module _ (axioms : List Axiom) (u : Term) (a : List ℕ) (v : Value) where
   attr_at (asked.AttrBoth n y z) (w, e, h) =
       let same : asked.AttrBoth n y z ≡ asked.AttrBoth n a v = cc in
       let side : w ≡ u = cc in
-      (n, refl, inr (inr (inr (inr (inl (same, subst (λ (o : Term). AttrsMeet axioms o n) side h))))))
+      (n, refl, inr (inr (inr (inr (inl (same, subst (λ (o : Term). AreDisjointAttrs axioms o n) side h))))))
   attr_at (asked.AttrOfExcept n y z) (w, e, h) =
       let same : asked.AttrOfExcept n y z ≡ asked.AttrOfExcept n a v = cc in
       let side : w ≡ u = cc in
-      (n, refl, inr (inr (inr (inr (inr (same, subst (λ (o : Term). AttrsBound axioms o n) side h))))))
+      (n, refl, inr (inr (inr (inr (inr (same, subst (λ (o : Term). ShareFunctionalAttr axioms o n) side h))))))
 
-  attr_term_at : (t : Term) (n : ℕ) → t.0 ≡ n → t ≡ record { 0 = n }
-  attr_term_at t n h = ap (λ (k : ℕ). record { 0 = k }) h
-
-  pub attrs_next : (number : ℕ) (old new : List Pattern) → AreAttrGuardsBelow axioms u a v number old → AreAdded (IsAttrGuardAt axioms u a v (record { 0 = number })) number 6 old new → AreAttrGuardsBelow axioms u a v (number + 1) new
-  attrs_next number old new h add = record {
-    each = λ x. (
-      (λ m. ⊎_elim (λ y. let t = (h.each x).0 y in (t.0, omega (arith, t.1), t.2)) (λ y. (record { 0 = number }, omega arith, y)) ((add.each x).0 m)),
-      (λ (t, l, q). (add.each x).1 (⊎_elim
-          (λ less. inl ((h.each x).1 (t, less, q)))
-          (λ least. let e : t.0 ≡ number = omega (arith, l, least) in inr (subst (λ (z : Term). IsAttrGuardAt axioms u a v z x) (attr_term_at t number e) q))
-          (cases_lt t.0 number))),
-    );
-    few = λ n. let x = add.few n in let y = h.few n in ⊎_elim
-        (λ t. let e : one_if number n ≡ 1 = t.0 in let z = rw e at x in let same : number ≤ n = omega (arith, t.1) in let w = h.none n same in omega (arith, z, w))
-        (λ t. let e : one_if number n ≡ 0 = t.0 in let z = rw e at x in omega (arith, z, y))
-        (one_tells number n);
-    none = λ n l. let x = add.few n in let below : number ≤ n = omega (arith, l) in let y = h.none n below in ⊎_elim
-        (λ t. absurd (omega (arith, t.1, l)))
-        (λ t. let e : one_if number n ≡ 0 = t.0 in let z = rw e at x in omega (arith, z, y))
-        (one_tells number n);
-  }
-
-pub attr_guards : (theory : Theory) (u : Term) (a : List ℕ) (v : Value) (guards : List Pattern) → AreAttrGuardsBelow theory.axioms u a v (length theory.terms) guards
+pub attr_guards : (theory : Theory) (u : Term) (a : List ℕ) (v : Value) (guards : List Pattern) → AreGuardsBelow (IsAttrGuardAt theory.axioms u a v) 6 (length theory.terms) guards
     → ¬ HasClash theory.axioms (fact.Attr u a v ∷ []) → (g : Fact) → Knows theory g → ¬ HasClash theory.axioms (g ∷ [])
     → ((x : Pattern) × Contains guards x × Matches x g) ↔ HasClash theory.axioms (fact.Attr u a v ∷ g ∷ [])
 attr_guards theory u a v guards h one g knows two =

@@ -10,7 +10,7 @@ use Rattle.dl_base.specs.Clash as c
 use Rattle.dl_base.specs.Clash.{RoleReaches, AttrReaches}
 use Rattle.dl_base.specs.Validity.{IsValid}
 use Rattle.dl_base.proofs.ClosureLaws.{inverse_inverse}
-use Rattle.conflict_rules.specs.Guards.{RolesBound, AttrsBound}
+use Rattle.dl_laws.specs.Meeting.{ShareFunctionalRole, ShareFunctionalAttr}
 
 module _ (axioms : List Axiom) (valid : IsValid axioms) where
   role_stays : (q v : RoleSide) → Contains axioms (FunctionalRole v) → RoleReaches axioms q v → q ≡ v
@@ -23,12 +23,12 @@ module _ (axioms : List Axiom) (valid : IsValid axioms) where
   attr_stays u v f (c.further z w y p n) = absurd (valid.attrs w v n f)
 
   -- so a guard with another partner is of the fact's own role, from the same side
-  pub roles_bound_same : (q r : RoleSide) → RolesBound axioms q r → q ≡ r
+  pub roles_bound_same : (q r : RoleSide) → ShareFunctionalRole axioms q r → q ≡ r
   roles_bound_same q r (it, m, (v, x, h, l)) =
       let f = subst (Contains axioms) x m in
       role_stays q v f h ∙ sym (role_stays r v f l)
 
-  pub attrs_bound_same : (u w : Term) → AttrsBound axioms u w → u ≡ w
+  pub attrs_bound_same : (u w : Term) → ShareFunctionalAttr axioms u w → u ≡ w
   attrs_bound_same u w (it, m, (v, x, h, l)) =
       let f = subst (Contains axioms) x m in
       attr_stays u v f h ∙ sym (attr_stays w v f l)

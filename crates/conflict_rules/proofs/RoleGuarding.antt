@@ -17,9 +17,10 @@ use Rattle.dl_base.specs.Patterns.{Matches}
 use Rattle.dl_base.specs.Clash.{HasClash}
 use Rattle.dl_base.proofs.Members.{here, there, alone, cons_cases}
 use Rattle.dl_laws.specs.Rows.{Start, OfRole}
-use Rattle.conflict_rules.specs.Guards.{RolesMeet, RolesBound, IsGuard, IsGuardOf}
-use Rattle.conflict_rules.specs.Counts.{pattern_term, one_if, AreAdded}
-use Rattle.conflict_rules.specs.RoleGuards.{IsRoleGuardAt, IsOtherGuardAt, IsKindGuardAt, AreRoleGuardsBelow}
+use Rattle.dl_laws.specs.Meeting.{AreDisjointRoles, ShareFunctionalRole}
+use Rattle.conflict_rules.specs.Guards.{IsGuard, IsGuardOf}
+use Rattle.conflict_rules.specs.Counts.{pattern_term, one_if, AreAdded, AreGuardsBelow}
+use Rattle.conflict_rules.specs.RoleGuards.{IsRoleGuardAt, IsOtherGuardAt, IsKindGuardAt}
 use Rattle.conflict_rules.proofs.Bound.{roles_bound_same}
 use Rattle.conflict_rules.proofs.Guarding.{guards_exact}
 use Rattle.conflict_rules.proofs.Adding.{one_tells, same_term, in_range}
@@ -82,17 +83,17 @@ module _ (theory : Theory) (p : Term) (a b : List ℕ) where
     first_at (asked.RoleBoth n y z) (fact.Role o c d) k (q, inl (e, h)) m =
         let same : asked.RoleBoth n y z ≡ asked.RoleBoth n a b = cc in
         let side : q ≡ Direct p = cc in
-        (n, refl, inl (subst (λ (w : Term). IsTerm theory w kind.Role) (sym m.0) k, inr (inr (inr (inr (inl (same, inl (subst (λ w. RolesMeet axioms w (Direct n)) side h))))))))
+        (n, refl, inl (subst (λ (w : Term). IsTerm theory w kind.Role) (sym m.0) k, inr (inr (inr (inr (inl (same, inl (subst (λ w. AreDisjointRoles axioms w (Direct n)) side h))))))))
     first_at (asked.RoleBoth n y z) (fact.Role o c d) k (q, inr (e, h)) m =
         let same : asked.RoleBoth n y z ≡ asked.RoleBoth n b a = cc in
         let side : q ≡ Direct p = cc in
-        (n, refl, inl (subst (λ (w : Term). IsTerm theory w kind.Role) (sym m.0) k, inr (inr (inr (inr (inr (inl (same, inl (subst (λ w. RolesMeet axioms w (Inverse n)) side h)))))))))
+        (n, refl, inl (subst (λ (w : Term). IsTerm theory w kind.Role) (sym m.0) k, inr (inr (inr (inr (inr (inl (same, inl (subst (λ w. AreDisjointRoles axioms w (Inverse n)) side h)))))))))
     first_at (asked.RoleBoth n y z) (fact.Attr o c v) k h m = absurd m
     first_at (asked.RoleFromExcept n y z) (fact.Class o c) k h m = absurd m
     first_at (asked.RoleFromExcept n y z) (fact.Role o c d) k (q, e, h) m =
         let same : asked.RoleFromExcept n y z ≡ asked.RoleFromExcept n a b = cc in
         let side : q ≡ Direct p = cc in
-        (n, refl, inl (subst (λ (w : Term). IsTerm theory w kind.Role) (sym m.0) k, inr (inr (inr (inr (inr (inr (inl (same, subst (λ w. RolesBound axioms w (Direct n)) side h)))))))))
+        (n, refl, inl (subst (λ (w : Term). IsTerm theory w kind.Role) (sym m.0) k, inr (inr (inr (inr (inr (inr (inl (same, subst (λ w. ShareFunctionalRole axioms w (Direct n)) side h)))))))))
     first_at (asked.RoleFromExcept n y z) (fact.Attr o c v) k h m = absurd m
     first_at (asked.RoleToExcept n y z) (fact.Class o c) k h m = absurd m
     first_at (asked.RoleToExcept n y z) (fact.Role o c d) k (q, e, h) m =
@@ -124,11 +125,11 @@ module _ (theory : Theory) (p : Term) (a b : List ℕ) where
     other_at (asked.RoleBoth n y z) (fact.Role o c d) k (q, inl (e, h)) m =
         let same : asked.RoleBoth n y z ≡ asked.RoleBoth n b a = cc in
         let side : q ≡ Inverse p = cc in
-        (n, refl, inl (subst (λ (w : Term). IsTerm theory w kind.Role) (sym m.0) k, inr (inr (inr (inr (inr (inl (same, inr (subst (λ w. RolesMeet axioms w (Direct n)) side h)))))))))
+        (n, refl, inl (subst (λ (w : Term). IsTerm theory w kind.Role) (sym m.0) k, inr (inr (inr (inr (inr (inl (same, inr (subst (λ w. AreDisjointRoles axioms w (Direct n)) side h)))))))))
     other_at (asked.RoleBoth n y z) (fact.Role o c d) k (q, inr (e, h)) m =
         let same : asked.RoleBoth n y z ≡ asked.RoleBoth n a b = cc in
         let side : q ≡ Inverse p = cc in
-        (n, refl, inl (subst (λ (w : Term). IsTerm theory w kind.Role) (sym m.0) k, inr (inr (inr (inr (inl (same, inr (subst (λ w. RolesMeet axioms w (Inverse n)) side h))))))))
+        (n, refl, inl (subst (λ (w : Term). IsTerm theory w kind.Role) (sym m.0) k, inr (inr (inr (inr (inl (same, inr (subst (λ w. AreDisjointRoles axioms w (Inverse n)) side h))))))))
     other_at (asked.RoleBoth n y z) (fact.Attr o c v) k h m = absurd m
     other_at (asked.RoleFromExcept n y z) (fact.Class o c) k h m = absurd m
     other_at (asked.RoleFromExcept n y z) (fact.Role o c d) k (q, e, h) m =
@@ -140,7 +141,7 @@ module _ (theory : Theory) (p : Term) (a b : List ℕ) where
     other_at (asked.RoleToExcept n y z) (fact.Role o c d) k (q, e, h) m =
         let same : asked.RoleToExcept n y z ≡ asked.RoleToExcept n b a = cc in
         let side : q ≡ Inverse p = cc in
-        (n, refl, inl (subst (λ (w : Term). IsTerm theory w kind.Role) (sym m.0) k, inr (inr (inr (inr (inr (inr (inr (same, subst (λ w. RolesBound axioms w (Inverse n)) side h)))))))))
+        (n, refl, inl (subst (λ (w : Term). IsTerm theory w kind.Role) (sym m.0) k, inr (inr (inr (inr (inr (inr (inr (same, subst (λ w. ShareFunctionalRole axioms w (Inverse n)) side h)))))))))
     other_at (asked.RoleToExcept n y z) (fact.Attr o c v) k h m = absurd m
     other_at (asked.Attr n) g k h m = absurd h
     other_at (asked.AttrOf n y) (fact.Class o c) k h m = absurd m
@@ -150,7 +151,7 @@ module _ (theory : Theory) (p : Term) (a b : List ℕ) where
     other_at (asked.AttrBoth n y v) g k (u, e, h) m = cc
     other_at (asked.AttrOfExcept n y v) g k (u, e, h) m = cc
 
-    pub role_guards : (guards : List Pattern) → AreRoleGuardsBelow theory p a b (length theory.terms) guards
+    pub role_guards : (guards : List Pattern) → AreGuardsBelow (IsKindGuardAt theory p a b) 8 (length theory.terms) guards
         → ¬ HasClash axioms (f ∷ []) → (g : Fact) → Knows theory g → ¬ HasClash axioms (g ∷ [])
         → ((x : Pattern) × Contains guards x × Matches x g) ↔ HasClash axioms (f ∷ g ∷ [])
     role_guards guards h one g knows two =
@@ -176,6 +177,7 @@ added_as Q R m j k old new same less h = record {
       (λ (t : (one_if m n ≡ 1) × (m ≡ n)). let e : one_if m n ≡ 1 = t.0 in let z = rw e at x in rw e (omega (arith, z, less)))
       (λ (t : (one_if m n ≡ 0) × (m ≢ n)). let e : one_if m n ≡ 0 = t.0 in let z = rw e at x in rw e (omega (arith, z)))
       (one_tells m n);
+  size = omega (arith, h.size, less);
 }
 
 module _ (theory : Theory) (p : Term) (a b : List ℕ) where
@@ -186,25 +188,3 @@ module _ (theory : Theory) (p : Term) (a b : List ℕ) where
   pub of_other : (t : Term) (old new : List Pattern) → ¬ IsTerm theory t kind.Role → AreAdded (IsOtherGuardAt theory.axioms p a b t) t.0 4 old new → AreAdded (IsKindGuardAt theory p a b t) t.0 8 old new
   of_other t old new none h = added_as (IsOtherGuardAt theory.axioms p a b t) (IsKindGuardAt theory p a b t) t.0 4 8 old new
       (λ x. ((λ q. inr (none, q)), (λ s. ⊎_elim (λ y. absurd (none y.0)) (λ y. y.1) s))) (omega arith) h
-
-  role_term_at : (t : Term) (n : ℕ) → t.0 ≡ n → t ≡ record { 0 = n }
-  role_term_at t n h = ap (λ (k : ℕ). record { 0 = k }) h
-
-  pub roles_next : (number : ℕ) (old new : List Pattern) → AreRoleGuardsBelow theory p a b number old → AreAdded (IsKindGuardAt theory p a b (record { 0 = number })) number 8 old new → AreRoleGuardsBelow theory p a b (number + 1) new
-  roles_next number old new h add = record {
-    each = λ x. (
-      (λ m. ⊎_elim (λ y. let t = (h.each x).0 y in (t.0, omega (arith, t.1), t.2)) (λ y. (record { 0 = number }, omega arith, y)) ((add.each x).0 m)),
-      (λ (t, l, q). (add.each x).1 (⊎_elim
-          (λ less. inl ((h.each x).1 (t, less, q)))
-          (λ least. let e : t.0 ≡ number = omega (arith, l, least) in inr (subst (λ (z : Term). IsKindGuardAt theory p a b z x) (role_term_at t number e) q))
-          (cases_lt t.0 number))),
-    );
-    few = λ n. let x = add.few n in let y = h.few n in ⊎_elim
-        (λ t. let e : one_if number n ≡ 1 = t.0 in let z = rw e at x in let same : number ≤ n = omega (arith, t.1) in let w = h.none n same in omega (arith, z, w))
-        (λ t. let e : one_if number n ≡ 0 = t.0 in let z = rw e at x in omega (arith, z, y))
-        (one_tells number n);
-    none = λ n l. let x = add.few n in let below : number ≤ n = omega (arith, l) in let y = h.none n below in ⊎_elim
-        (λ t. absurd (omega (arith, t.1, l)))
-        (λ t. let e : one_if number n ≡ 0 = t.0 in let z = rw e at x in omega (arith, z, y))
-        (one_tells number n);
-  }

@@ -1,5 +1,5 @@
 -- Lists of guards, with how many of them name a term.
-use Rattle.std.specs.Prelude.{◌≡◌, ◌≤◌, ◌<◌, ◌+◌, ◌*◌, ◌↔◌, ◌⊎◌, ℕ, cond, nat_eq, List, Contains, count_by}
+use Rattle.std.specs.Prelude.{◌≡◌, ◌≤◌, ◌<◌, ◌+◌, ◌*◌, ◌↔◌, ◌⊎◌, ℕ, cond, nat_eq, List, Contains, count_by, length}
 use Rattle.dl_base.specs.declared.axioms.Axiom.{Axiom}
 use Rattle.dl_base.specs.declared.terms.Term.{Term}
 use Rattle.dl_base.specs.declared.terms.RoleSide.TheVariants.{Direct, Inverse}
@@ -7,7 +7,7 @@ use Rattle.dl_base.specs.declared.terms.Basic.{Basic}
 use Rattle.dl_base.specs.declared.terms.Basic.TheVariants as basic
 use Rattle.dl_base.specs.declared.patterns.Pattern.{Pattern}
 use Rattle.dl_base.specs.declared.patterns.Pattern.TheVariants as asked
-use Rattle.conflict_rules.specs.Guards.{ConceptsMeet}
+use Rattle.dl_laws.specs.Meeting.{AreDisjointConcepts}
 
 abbrev pub pattern_term : Pattern → ℕ
 pattern_term (asked.Class n) = n.0
@@ -35,10 +35,11 @@ one_if m n = cond (nat_eq m n) 1 0
 pub record AreAdded (Q : Pattern → Type 0) (m k : ℕ) (old new : List Pattern) : Type 0 where
   pub each : (p : Pattern) → Contains new p ↔ (Contains old p ⊎ Q p)
   pub few : (n : ℕ) → naming n new ≤ naming n old + k * one_if m n
+  pub size : length new ≤ length old + k
 
 -- the pattern is this one, where the two concepts meet
 abbrev pub IsWhere : List Axiom → Basic → Basic → Pattern → Pattern → Type 0
-IsWhere axioms b c it p = (p ≡ it) × ConceptsMeet axioms b c
+IsWhere axioms b c it p = (p ≡ it) × AreDisjointConcepts axioms b c
 
 -- a guard of someone in a concept, among the facts of one term
 abbrev pub IsGuardAt : List Axiom → List ℕ → Basic → Term → Pattern → Type 0
@@ -48,8 +49,9 @@ IsGuardAt axioms a b t p =
     ⊎ (IsWhere axioms b (basic.Exists (Inverse t)) (asked.RoleTo t a) p
     ⊎ IsWhere axioms b (basic.Domain t) (asked.AttrOf t a) p))
 
--- the guards of someone in a concept, among the facts of the terms below a number
-pub record AreGuardsBelow (axioms : List Axiom) (a : List ℕ) (b : Basic) (number : ℕ) (guards : List Pattern) : Type 0 where
-  pub each : (p : Pattern) → Contains guards p ↔ ((t : Term) × (t.0 < number) × IsGuardAt axioms a b t p)
-  pub few : (n : ℕ) → naming n guards ≤ 4
+-- the guards that Q names, among the facts of the terms below a number: so many of a term at most
+pub record AreGuardsBelow (Q : Term → Pattern → Type 0) (most number : ℕ) (guards : List Pattern) : Type 0 where
+  pub each : (p : Pattern) → Contains guards p ↔ ((t : Term) × (t.0 < number) × Q t p)
+  pub few : (n : ℕ) → naming n guards ≤ most
   pub none : (n : ℕ) → number ≤ n → naming n guards ≡ 0
+  pub size : length guards ≤ most * number

@@ -11,39 +11,23 @@ use Rattle.dl_base.specs.declared.patterns.Pattern.TheVariants as asked
 use Rattle.dl_base.specs.declared.statements.Fact.{Fact}
 use Rattle.dl_base.specs.Patterns.{Matches}
 use Rattle.dl_laws.specs.Rows.{Start, OfRole, OfAttr, subject, concept, starts}
-use Rattle.conflict_rules.specs.Meeting.{SomeAxiom, PartsConcepts, PartsRoles, PartsAttrs, BindsRoles, BindsAttrs}
-
--- an axiom parts the two, named in one order or in the other
-abbrev pub ConceptsMeet : List Axiom → Basic → Basic → Type 0
-ConceptsMeet axioms b c = SomeAxiom axioms (PartsConcepts axioms b c) ⊎ SomeAxiom axioms (PartsConcepts axioms c b)
-
-abbrev pub RolesMeet : List Axiom → RoleSide → RoleSide → Type 0
-RolesMeet axioms q r = SomeAxiom axioms (PartsRoles axioms q r) ⊎ SomeAxiom axioms (PartsRoles axioms r q)
-
-abbrev pub AttrsMeet : List Axiom → Term → Term → Type 0
-AttrsMeet axioms u w = SomeAxiom axioms (PartsAttrs axioms u w) ⊎ SomeAxiom axioms (PartsAttrs axioms w u)
-
-abbrev pub RolesBound : List Axiom → RoleSide → RoleSide → Type 0
-RolesBound axioms q r = SomeAxiom axioms (BindsRoles axioms q r)
-
-abbrev pub AttrsBound : List Axiom → Term → Term → Type 0
-AttrsBound axioms u w = SomeAxiom axioms (BindsAttrs axioms u w)
+use Rattle.dl_laws.specs.Meeting.{AreDisjointConcepts, AreDisjointRoles, AreDisjointAttrs, ShareFunctionalRole, ShareFunctionalAttr}
 
 -- the pattern is a guard of the start row
 abbrev pub IsGuard : List Axiom → Start → Pattern → Type 0
 IsGuard axioms s (asked.Class n) = ⊥
-IsGuard axioms s (asked.ClassOf n a) = (a ≡ subject s) × ConceptsMeet axioms (concept s) (basic.Class n)
+IsGuard axioms s (asked.ClassOf n a) = (a ≡ subject s) × AreDisjointConcepts axioms (concept s) (basic.Class n)
 IsGuard axioms s (asked.Role n) = ⊥
-IsGuard axioms s (asked.RoleFrom n a) = (a ≡ subject s) × ConceptsMeet axioms (concept s) (basic.Exists (Direct n))
-IsGuard axioms s (asked.RoleTo n b) = (b ≡ subject s) × ConceptsMeet axioms (concept s) (basic.Exists (Inverse n))
-IsGuard axioms s (asked.RoleBoth n x y) = (q : RoleSide) × (((s ≡ OfRole x y q) × RolesMeet axioms q (Direct n)) ⊎ ((s ≡ OfRole y x q) × RolesMeet axioms q (Inverse n)))
-IsGuard axioms s (asked.RoleFromExcept n a b) = (q : RoleSide) × (s ≡ OfRole a b q) × RolesBound axioms q (Direct n)
-IsGuard axioms s (asked.RoleToExcept n a b) = (q : RoleSide) × (s ≡ OfRole a b q) × RolesBound axioms q (Inverse n)
+IsGuard axioms s (asked.RoleFrom n a) = (a ≡ subject s) × AreDisjointConcepts axioms (concept s) (basic.Exists (Direct n))
+IsGuard axioms s (asked.RoleTo n b) = (b ≡ subject s) × AreDisjointConcepts axioms (concept s) (basic.Exists (Inverse n))
+IsGuard axioms s (asked.RoleBoth n x y) = (q : RoleSide) × (((s ≡ OfRole x y q) × AreDisjointRoles axioms q (Direct n)) ⊎ ((s ≡ OfRole y x q) × AreDisjointRoles axioms q (Inverse n)))
+IsGuard axioms s (asked.RoleFromExcept n a b) = (q : RoleSide) × (s ≡ OfRole a b q) × ShareFunctionalRole axioms q (Direct n)
+IsGuard axioms s (asked.RoleToExcept n a b) = (q : RoleSide) × (s ≡ OfRole a b q) × ShareFunctionalRole axioms q (Inverse n)
 IsGuard axioms s (asked.Attr n) = ⊥
-IsGuard axioms s (asked.AttrOf n a) = (a ≡ subject s) × ConceptsMeet axioms (concept s) (basic.Domain n)
+IsGuard axioms s (asked.AttrOf n a) = (a ≡ subject s) × AreDisjointConcepts axioms (concept s) (basic.Domain n)
 IsGuard axioms s (asked.AttrValue n v) = ⊥
-IsGuard axioms s (asked.AttrBoth n a v) = (u : Term) × (s ≡ OfAttr a v u) × AttrsMeet axioms u n
-IsGuard axioms s (asked.AttrOfExcept n a v) = (u : Term) × (s ≡ OfAttr a v u) × AttrsBound axioms u n
+IsGuard axioms s (asked.AttrBoth n a v) = (u : Term) × (s ≡ OfAttr a v u) × AreDisjointAttrs axioms u n
+IsGuard axioms s (asked.AttrOfExcept n a v) = (u : Term) × (s ≡ OfAttr a v u) × ShareFunctionalAttr axioms u n
 
 -- the pattern is a guard of the fact
 abbrev pub IsGuardOf : List Axiom → Fact → Pattern → Type 0

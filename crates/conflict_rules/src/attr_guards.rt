@@ -1,4 +1,4 @@
-ghost use Rattle.std.specs.Prelude.{◌≡◌, ◌≤◌, ◌↔◌, ◌∷◌, [], ℕ, IfOk, OnOk, Contains, length};
+ghost use Rattle.std.specs.Prelude.{◌≡◌, ◌≤◌, ◌*◌, ◌↔◌, ◌∷◌, [], ℕ, IfOk, OnOk, Contains, length};
 ghost use Rattle.dl_base.specs.Clash.{HasClash};
 ghost use Rattle.dl_base.specs.Ontologies.{Knows};
 ghost use Rattle.dl_base.specs.Patterns.{Matches};
@@ -6,9 +6,9 @@ ghost use Rattle.dl_base.specs.declared.patterns.Pattern as pattern_type;
 ghost use Rattle.dl_base.specs.declared.patterns.Pattern.TheVariants as asked;
 ghost use Rattle.dl_base.specs.declared.statements.Fact as fact_type;
 ghost use Rattle.dl_base.specs.declared.statements.Fact.TheVariants as fact;
-ghost use Rattle.conflict_rules.specs.AttrGuards.{IsAttrGuardAt, AreAttrGuardsBelow};
-ghost use Rattle.conflict_rules.specs.Counts.{naming, AreAdded};
-ghost use Rattle.conflict_rules.specs.Guards.{AttrsMeet, AttrsBound};
+ghost use Rattle.conflict_rules.specs.AttrGuards.{IsAttrGuardAt};
+ghost use Rattle.conflict_rules.specs.Counts.{naming, AreAdded, AreGuardsBelow};
+ghost use Rattle.dl_laws.specs.Meeting.{AreDisjointAttrs, ShareFunctionalAttr};
 
 use crate::conflicts::Conflicts;
 use dl_base::{Basic, Name, OutOfMemory, Pattern, Term, Value};
@@ -16,7 +16,7 @@ use std::alloc::Global;
 
 impl Conflicts {
     /// The patterns of the facts that clash with the attribute fact.
-    pub fn guards_of_attr(
+    pub(crate) fn guards_of_attr(
         &self,
         alloc: Global,
         attr: Term,
@@ -27,6 +27,7 @@ impl Conflicts {
         ensures exact { IfOk result (λ guards. (g : fact_type.Fact) → Knows self.now g → ¬ HasClash self.now.axioms (g ∷ [])
             → ((p : pattern_type.Pattern) × Contains guards.items p × Matches p g) ↔ HasClash self.now.axioms (fact.Attr attr name.now value.now ∷ g ∷ [])) }
         ensures few { IfOk result (λ guards. (n : ℕ) → naming n guards.items ≤ 6) }
+        ensures size { IfOk result (λ guards. length guards.items ≤ 6 * length self.now.terms) }
     {
         let guards = self.all_attr_guards(alloc, attr, name, value)?;
         Ok(guards)
@@ -39,7 +40,7 @@ impl Conflicts {
         name: &Name,
         value: &Value,
     ) -> Result<Vec<Pattern>, OutOfMemory>
-        ensures { IfOk result (λ guards. AreAttrGuardsBelow self.now.axioms attr name.now value.now (length self.now.terms) guards.items) }
+        ensures { IfOk result (λ guards. AreGuardsBelow (IsAttrGuardAt self.now.axioms attr name.now value.now) 6 (length self.now.terms) guards.items) }
     {
         let mut guards = Vec::new(alloc);
         for number in 0..self.terms() {
@@ -77,9 +78,9 @@ impl Conflicts {
         term: Term,
         guards: &mut Vec<Pattern>,
     ) -> Result<(), OutOfMemory>
-        ensures { OnOk result (AreAdded (λ p. (p ≡ asked.AttrBoth term name.now value.now) × AttrsMeet self.now.axioms attr term) term.0 1 guards.old.items guards.new.items) }
+        ensures { OnOk result (AreAdded (λ p. (p ≡ asked.AttrBoth term name.now value.now) × AreDisjointAttrs self.now.axioms attr term) term.0 1 guards.old.items guards.new.items) }
     {
-        if !self.attrs_meet(attr, term) {
+        if !self.disjoint_attrs(attr, term) {
             return Ok(());
         }
         guards.push(Pattern::AttrBoth(term, name.copy(alloc)?, value.copy(alloc)?))?;
@@ -95,9 +96,9 @@ impl Conflicts {
         term: Term,
         guards: &mut Vec<Pattern>,
     ) -> Result<(), OutOfMemory>
-        ensures { OnOk result (AreAdded (λ p. (p ≡ asked.AttrOfExcept term name.now value.now) × AttrsBound self.now.axioms attr term) term.0 1 guards.old.items guards.new.items) }
+        ensures { OnOk result (AreAdded (λ p. (p ≡ asked.AttrOfExcept term name.now value.now) × ShareFunctionalAttr self.now.axioms attr term) term.0 1 guards.old.items guards.new.items) }
     {
-        if !self.attrs_bound(attr, term) {
+        if !self.share_functional_attr(attr, term) {
             return Ok(());
         }
         guards.push(Pattern::AttrOfExcept(term, name.copy(alloc)?, value.copy(alloc)?))?;

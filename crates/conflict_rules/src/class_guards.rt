@@ -1,4 +1,4 @@
-ghost use Rattle.std.specs.Prelude.{◌≡◌, ◌≤◌, ◌↔◌, ◌∷◌, [], ℕ, IsTrue, IfOk, OnOk, Contains, length};
+ghost use Rattle.std.specs.Prelude.{◌≡◌, ◌≤◌, ◌*◌, ◌↔◌, ◌∷◌, [], ℕ, IsTrue, IfOk, OnOk, Contains, length};
 ghost use Rattle.dl_base.specs.Clash.{HasClash};
 ghost use Rattle.dl_base.specs.Ontologies.{Knows};
 ghost use Rattle.dl_base.specs.Patterns.{Matches};
@@ -16,7 +16,7 @@ use std::alloc::Global;
 
 impl Conflicts {
     /// The patterns of the facts that clash with the class fact.
-    pub fn guards_of_class(
+    pub(crate) fn guards_of_class(
         &self,
         alloc: Global,
         class: Term,
@@ -26,6 +26,7 @@ impl Conflicts {
         ensures exact { IfOk result (λ guards. (g : fact_type.Fact) → Knows self.now g → ¬ HasClash self.now.axioms (g ∷ [])
             → ((p : pattern_type.Pattern) × Contains guards.items p × Matches p g) ↔ HasClash self.now.axioms (fact.Class class name.now ∷ g ∷ [])) }
         ensures few { IfOk result (λ guards. (n : ℕ) → naming n guards.items ≤ 4) }
+        ensures size { IfOk result (λ guards. length guards.items ≤ 4 * length self.now.terms) }
     {
         let guards = self.guards_of_concept(alloc, name, Basic::Class(class))?;
         Ok(guards)
@@ -37,7 +38,7 @@ impl Conflicts {
         name: &Name,
         concept: Basic,
     ) -> Result<Vec<Pattern>, OutOfMemory>
-        ensures { IfOk result (λ guards. AreGuardsBelow self.now.axioms name.now concept (length self.now.terms) guards.items) }
+        ensures { IfOk result (λ guards. AreGuardsBelow (IsGuardAt self.now.axioms name.now concept) 4 (length self.now.terms) guards.items) }
     {
         let mut guards = Vec::new(alloc);
         for number in 0..self.terms() {
@@ -63,7 +64,7 @@ impl Conflicts {
         Ok(())
     }
 
-    pub fn add_class(
+    pub(crate) fn add_class(
         &self,
         alloc: Global,
         name: &Name,
@@ -73,14 +74,14 @@ impl Conflicts {
     ) -> Result<(), OutOfMemory>
         ensures { OnOk result (AreAdded (IsWhere self.now.axioms concept (basic.Class term) (asked.ClassOf term name.now)) term.0 1 guards.old.items guards.new.items) }
     {
-        if !self.concepts_meet(concept, Basic::Class(term)) {
+        if !self.disjoint_concepts(concept, Basic::Class(term)) {
             return Ok(());
         }
         guards.push(Pattern::ClassOf(term, name.copy(alloc)?))?;
         Ok(())
     }
 
-    pub fn add_from(
+    pub(crate) fn add_from(
         &self,
         alloc: Global,
         name: &Name,
@@ -90,14 +91,14 @@ impl Conflicts {
     ) -> Result<(), OutOfMemory>
         ensures { OnOk result (AreAdded (IsWhere self.now.axioms concept (basic.Exists (Direct term)) (asked.RoleFrom term name.now)) term.0 1 guards.old.items guards.new.items) }
     {
-        if !self.concepts_meet(concept, Basic::Exists(RoleSide::Direct(term))) {
+        if !self.disjoint_concepts(concept, Basic::Exists(RoleSide::Direct(term))) {
             return Ok(());
         }
         guards.push(Pattern::RoleFrom(term, name.copy(alloc)?))?;
         Ok(())
     }
 
-    pub fn add_to(
+    pub(crate) fn add_to(
         &self,
         alloc: Global,
         name: &Name,
@@ -107,14 +108,14 @@ impl Conflicts {
     ) -> Result<(), OutOfMemory>
         ensures { OnOk result (AreAdded (IsWhere self.now.axioms concept (basic.Exists (Inverse term)) (asked.RoleTo term name.now)) term.0 1 guards.old.items guards.new.items) }
     {
-        if !self.concepts_meet(concept, Basic::Exists(RoleSide::Inverse(term))) {
+        if !self.disjoint_concepts(concept, Basic::Exists(RoleSide::Inverse(term))) {
             return Ok(());
         }
         guards.push(Pattern::RoleTo(term, name.copy(alloc)?))?;
         Ok(())
     }
 
-    pub fn add_attr(
+    pub(crate) fn add_attr(
         &self,
         alloc: Global,
         name: &Name,
@@ -124,7 +125,7 @@ impl Conflicts {
     ) -> Result<(), OutOfMemory>
         ensures { OnOk result (AreAdded (IsWhere self.now.axioms concept (basic.Domain term) (asked.AttrOf term name.now)) term.0 1 guards.old.items guards.new.items) }
     {
-        if !self.concepts_meet(concept, Basic::Domain(term)) {
+        if !self.disjoint_concepts(concept, Basic::Domain(term)) {
             return Ok(());
         }
         guards.push(Pattern::AttrOf(term, name.copy(alloc)?))?;

@@ -1,48 +1,74 @@
-ghost use Rattle.std.specs.Prelude.{◌≡◌, ◌≢◌, ◌≤◌, ◌↔◌, ◌⊎◌, ◌∷◌, [], IsTrue, Contains, length};
+ghost use Rattle.std.specs.Prelude.{◌≡◌, ◌↔◌, ◌∷◌, [], IsTrue, IfOk, length};
 ghost use Rattle.dl_base.specs.Clash.{HasClash};
-ghost use Rattle.dl_laws.specs.Emptiness.{IsTorn, Collide};
-ghost use Rattle.dl_laws.specs.Rows as rows;
-ghost use Rattle.conflict_rules.specs.Facts.{start_of, CollidesWith, FactsCollide};
-ghost use Rattle.conflict_rules.specs.Meeting.{SomeAxiom, PartsConcepts, PartsRoles, PartsAttrs, BindsRoles, BindsAttrs, RangesAttrs};
-ghost use Rattle.conflict_rules.specs.Guards.{AttrsBound, AttrsMeet, ConceptsMeet, RolesBound, RolesMeet};
 ghost use Rattle.dl_base.specs.Ontologies.{IsTerm};
+ghost use Rattle.dl_base.specs.Validity.{IsOntology};
 ghost use Rattle.dl_base.specs.declared.terms.Kind.TheVariants as kind;
-ghost use Rattle.conflict_rules.specs.Why.{ConceptWhy, KindWhy, RoleWhy, AttrWhy};
+ghost use Rattle.dl_laws.specs.Emptiness.{IsUnsatisfiable};
+ghost use Rattle.dl_laws.specs.Meeting.{AreDisjointConcepts, AreDisjointRoles, AreDisjointAttrs, ShareFunctionalRole, ShareFunctionalAttr};
+ghost use Rattle.conflict_rules.specs.Clashing.{AttrsClash, BreaksRange, ClashesWith, FactsClash, IsUnsatisfiableFact, KindsClash, RolesClash, StartsClash};
+ghost use Rattle.conflict_rules.specs.Facts.{start_of};
 
 use crate::beginnings::{Beginning, concept_of, share_subject};
-use dl_base::{Axiom, Basic, Fact, Name, RoleSide, Term, Value};
+use crate::functional::{Functionality, functional_terms, is_set, same_role, same_term};
+use dl_base::{Basic, Fact, Name, Ontology, OutOfMemory, RoleSide, Term, Value};
+use std::alloc::Global;
 use std::marker::Model;
 use tbox_closure::Implied;
 
-/// The clashes of an ontology.
+/// The clashes of one and of two facts under an ontology. The tables of what follows from the ontology are shared.
 #[derive(Drop)]
 pub struct Conflicts {
     implied: Implied,
+    of_subjects: Vec<bool>,
+    of_objects: Vec<bool>,
+    of_attrs: Vec<bool>,
 }
 
 impl Model for Conflicts {
     ghost use Rattle.dl_base.specs.Ontologies.{Theory};
+    ghost use Rattle.conflict_rules.specs.Functional.{IsCompiled};
 
     ghost Value = { Theory };
 
     ghost view = { λ c. c.implied };
+
+    ghost invariant = { λ c. IsCompiled c.implied c.of_subjects.items c.of_objects.items c.of_attrs.items };
 }
 
 impl Conflicts {
-    pub fn of(implied: Implied) -> Conflicts
-        ensures { result ≡ implied }
+    /// Compiles what one ontology declares functional beside what follows from it.
+    pub fn compile(
+        alloc: Global,
+        implied: &Implied,
+        ontology: &Ontology,
+    ) -> Result<Conflicts, OutOfMemory>
+        requires { implied.now ≡ ontology.now }
+        ensures { IfOk result (λ conflicts. conflicts ≡ ontology.now) }
     {
-        Conflicts { implied }
+        let terms = ontology.terms();
+        let axioms = ontology.axioms();
+        let of_subjects = functional_terms(alloc, Functionality::OfSubjects, axioms, terms)?;
+        let of_objects = functional_terms(alloc, Functionality::OfObjects, axioms, terms)?;
+        let of_attrs = functional_terms(alloc, Functionality::OfAttrs, axioms, terms)?;
+        Ok(Conflicts {
+            implied: implied.share()?,
+            of_subjects,
+            of_objects,
+            of_attrs,
+        })
     }
 
     /// Whether the fact by itself has a clash.
     pub fn alone(&self, fact: &Fact) -> bool
         ensures { IsTrue result ↔ HasClash self.now.axioms (fact.now ∷ []) }
     {
-        if self.is_torn(fact) {
+        if self.is_unsatisfiable(fact) {
             return true;
         }
-        self.facts_collide(fact, fact)
+        if self.breaks_range(fact) {
+            return true;
+        }
+        self.facts_clash(fact, fact)
     }
 
     /// Whether two facts without a clash of their own have one together.
@@ -51,304 +77,183 @@ impl Conflicts {
         requires second { ¬ HasClash self.now.axioms (second.now ∷ []) }
         ensures { IsTrue result ↔ HasClash self.now.axioms (first.now ∷ second.now ∷ []) }
     {
-        if self.facts_collide(first, second) {
-            return true;
-        }
-        self.facts_collide(second, first)
+        self.facts_clash(first, second)
     }
 
-    /// Whether a start row of the fact is impossible.
-    fn is_torn(&self, fact: &Fact) -> bool
-        ensures { IsTrue result ↔ ((s : rows.Start) × Contains (rows.starts fact.now) s × IsTorn self.now.axioms (rows.concept s)) }
+    fn implied(&self) -> &Implied
+        ensures { result.now ≡ self.now }
+    {
+        &self.implied
+    }
+
+    /// Whether nothing can be in a concept that the fact gives its individual.
+    fn is_unsatisfiable(&self, fact: &Fact) -> bool
+        ensures { IsTrue result ↔ IsUnsatisfiableFact self.now.axioms fact.now }
     {
         match fact {
-            Fact::Class(c, _) => self.torn_concept(Basic::Class(*c)),
+            Fact::Class(c, _) => self.unsatisfiable_concept(Basic::Class(*c)),
             Fact::Role(p, _, _) => {
-                if self.torn_concept(Basic::Exists(RoleSide::Direct(*p))) {
+                if self.unsatisfiable_concept(Basic::Exists(RoleSide::Direct(*p))) {
                     return true;
                 }
-                self.torn_concept(Basic::Exists(RoleSide::Inverse(*p)))
+                self.unsatisfiable_concept(Basic::Exists(RoleSide::Inverse(*p)))
             }
-            Fact::Attr(u, _, _) => self.torn_concept(Basic::Domain(*u)),
+            Fact::Attr(u, _, _) => self.unsatisfiable_concept(Basic::Domain(*u)),
         }
     }
 
-    /// Whether a start row of the first fact collides with one of the second.
-    fn facts_collide(&self, first: &Fact, second: &Fact) -> bool
-        ensures { IsTrue result ↔ FactsCollide self.now.axioms first.now second.now }
+    /// Whether the value's datatype is none of the attribute's.
+    fn breaks_range(&self, fact: &Fact) -> bool
+        ensures { IsTrue result ↔ BreaksRange self.now.axioms fact.now }
+    {
+        match fact {
+            Fact::Class(_, _) => false,
+            Fact::Role(_, _, _) => false,
+            Fact::Attr(u, _, v) => self.implied().has_other_range(*u, &v.datatype),
+        }
+    }
+
+    /// Whether a row of the first fact clashes with one of the second.
+    fn facts_clash(&self, first: &Fact, second: &Fact) -> bool
+        ensures { IsTrue result ↔ FactsClash self.now.axioms first.now second.now }
     {
         match first {
             Fact::Class(c, a) => {
-                self.collides_with(&Beginning::InConcept(a, Basic::Class(*c)), second)
+                self.clashes_with(&Beginning::InConcept(a, Basic::Class(*c)), second)
             }
             Fact::Role(p, a, b) => {
-                if self.collides_with(&Beginning::InRole(a, b, RoleSide::Direct(*p)), second) {
+                if self.clashes_with(&Beginning::InRole(a, b, RoleSide::Direct(*p)), second) {
                     return true;
                 }
-                self.collides_with(&Beginning::InRole(b, a, RoleSide::Inverse(*p)), second)
+                self.clashes_with(&Beginning::InRole(b, a, RoleSide::Inverse(*p)), second)
             }
-            Fact::Attr(u, a, v) => self.collides_with(&Beginning::InAttr(a, v, *u), second),
+            Fact::Attr(u, a, v) => self.clashes_with(&Beginning::InAttr(a, v, *u), second),
         }
     }
 
-    fn collides_with(&self, row: &Beginning<'_>, fact: &Fact) -> bool
-        ensures { IsTrue result ↔ CollidesWith self.now.axioms (start_of row.now) fact.now }
+    fn clashes_with(&self, row: &Beginning<'_>, fact: &Fact) -> bool
+        ensures { IsTrue result ↔ ClashesWith self.now.axioms (start_of row.now) fact.now }
     {
         match fact {
-            Fact::Class(c, a) => self.collide(row, &Beginning::InConcept(a, Basic::Class(*c))),
+            Fact::Class(c, a) => self.rows_clash(row, &Beginning::InConcept(a, Basic::Class(*c))),
             Fact::Role(p, a, b) => {
-                if self.collide(row, &Beginning::InRole(a, b, RoleSide::Direct(*p))) {
+                if self.rows_clash(row, &Beginning::InRole(a, b, RoleSide::Direct(*p))) {
                     return true;
                 }
-                self.collide(row, &Beginning::InRole(b, a, RoleSide::Inverse(*p)))
+                self.rows_clash(row, &Beginning::InRole(b, a, RoleSide::Inverse(*p)))
             }
-            Fact::Attr(u, a, v) => self.collide(row, &Beginning::InAttr(a, v, *u)),
+            Fact::Attr(u, a, v) => self.rows_clash(row, &Beginning::InAttr(a, v, *u)),
         }
     }
 
-    fn collide(&self, one: &Beginning<'_>, other: &Beginning<'_>) -> bool
-        ensures { IsTrue result ↔ Collide self.now.axioms (start_of one.now) (start_of other.now) }
+    fn rows_clash(&self, one: &Beginning<'_>, other: &Beginning<'_>) -> bool
+        ensures { IsTrue result ↔ StartsClash self.now.axioms (start_of one.now) (start_of other.now) }
     {
         if !share_subject(one, other) {
             return false;
         }
-        if self.concepts_collide(one, other) {
+        if self.disjoint_concepts(concept_of(one), concept_of(other)) {
             return true;
         }
-        self.kinds_collide(one, other)
+        self.kinds_clash(one, other)
     }
 
-    fn concepts_collide(&self, one: &Beginning<'_>, other: &Beginning<'_>) -> bool
-        ensures { IsTrue result ↔ ConceptWhy self.now.axioms (start_of one.now) (start_of other.now) }
-    {
-        self.concepts_part(concept_of(one), concept_of(other))
-    }
-
-    fn kinds_collide(&self, one: &Beginning<'_>, other: &Beginning<'_>) -> bool
-        ensures { IsTrue result ↔ KindWhy self.now.axioms (start_of one.now) (start_of other.now) }
+    fn kinds_clash(&self, one: &Beginning<'_>, other: &Beginning<'_>) -> bool
+        ensures { IsTrue result ↔ KindsClash self.now.axioms (start_of one.now) (start_of other.now) }
     {
         match (one, other) {
             (Beginning::InRole(_, b, q), Beginning::InRole(_, d, r)) => {
-                self.roles_collide(b, d, *q, *r)
+                self.roles_clash(b, d, *q, *r)
             }
             (Beginning::InAttr(_, x, u), Beginning::InAttr(_, y, w)) => {
-                self.attrs_collide(x, y, *u, *w)
+                self.attrs_clash(x, y, *u, *w)
             }
             _ => false,
         }
     }
 
-    fn roles_collide(&self, to: &Name, and: &Name, one: RoleSide, other: RoleSide) -> bool
-        ensures { IsTrue result ↔ RoleWhy self.now.axioms to.now and.now one other }
+    fn roles_clash(&self, to: &Name, and: &Name, one: RoleSide, other: RoleSide) -> bool
+        ensures { IsTrue result ↔ RolesClash self.now.axioms to.now and.now one other }
     {
         if to.is(and) {
-            return self.roles_part(one, other);
+            return self.disjoint_roles(one, other);
         }
-        self.roles_bind(one, other)
+        self.share_functional_role(one, other)
     }
 
-    fn attrs_collide(&self, value: &Value, and: &Value, one: Term, other: Term) -> bool
-        ensures { IsTrue result ↔ AttrWhy self.now.axioms value.now and.now one other }
+    fn attrs_clash(&self, value: &Value, and: &Value, one: Term, other: Term) -> bool
+        ensures { IsTrue result ↔ AttrsClash self.now.axioms value.now and.now one other }
     {
-        if !value.is(and) {
-            return self.attrs_bind(one, other);
+        if value.is(and) {
+            return self.disjoint_attrs(one, other);
         }
-        if self.attrs_part(one, other) {
-            return true;
+        self.share_functional_attr(one, other)
+    }
+
+    fn unsatisfiable_concept(&self, concept: Basic) -> bool
+        ensures { IsTrue result ↔ IsUnsatisfiable self.now.axioms concept }
+    {
+        self.implied().is_unsatisfiable(concept)
+    }
+
+    /// Whether axioms make the two concepts disjoint.
+    pub(crate) fn disjoint_concepts(&self, one: Basic, other: Basic) -> bool
+        ensures { IsTrue result ↔ AreDisjointConcepts self.now.axioms one other }
+    {
+        self.implied().disjoint_concepts(one, other)
+    }
+
+    /// Whether axioms make the two roles disjoint.
+    pub(crate) fn disjoint_roles(&self, one: RoleSide, other: RoleSide) -> bool
+        ensures { IsTrue result ↔ AreDisjointRoles self.now.axioms one other }
+    {
+        self.implied().disjoint_roles(one, other)
+    }
+
+    /// Whether axioms make the two attributes disjoint.
+    pub(crate) fn disjoint_attrs(&self, one: Term, other: Term) -> bool
+        ensures { IsTrue result ↔ AreDisjointAttrs self.now.axioms one other }
+    {
+        self.implied().disjoint_attrs(one, other)
+    }
+
+    /// Whether something above both roles is functional. Nothing functional is specialised, so that is one role itself.
+    pub(crate) fn share_functional_role(&self, one: RoleSide, other: RoleSide) -> bool
+        ensures { IsTrue result ↔ ShareFunctionalRole self.now.axioms one other }
+    {
+        let _terms = self.implied.terms();
+        if !same_role(one, other) {
+            return false;
         }
-        self.attrs_range(one, other, &value.datatype)
-    }
-
-    fn axioms(&self) -> &[Axiom]
-        ensures { result.now ≡ self.now.axioms }
-    {
-        self.implied.axioms()
-    }
-
-    fn torn_concept(&self, concept: Basic) -> bool
-        ensures { IsTrue result ↔ IsTorn self.now.axioms concept }
-    {
-        self.implied.is_torn(concept)
-    }
-
-    /// Whether an axiom parts the two, named in one order or in the other.
-    pub fn concepts_meet(&self, one: Basic, other: Basic) -> bool
-        ensures { IsTrue result ↔ ConceptsMeet self.now.axioms one other }
-    {
-        if self.concepts_part(one, other) {
-            return true;
+        match one {
+            RoleSide::Direct(term) => is_set(self.of_subjects.as_slice(), term),
+            RoleSide::Inverse(term) => is_set(self.of_objects.as_slice(), term),
         }
-        self.concepts_part(other, one)
     }
 
-    /// Whether an axiom parts the two roles, named in one order or in the other.
-    pub fn roles_meet(&self, one: RoleSide, other: RoleSide) -> bool
-        ensures { IsTrue result ↔ RolesMeet self.now.axioms one other }
+    /// Whether something above both attributes is functional. Nothing functional is specialised, so that is one attribute itself.
+    pub(crate) fn share_functional_attr(&self, one: Term, other: Term) -> bool
+        ensures { IsTrue result ↔ ShareFunctionalAttr self.now.axioms one other }
     {
-        if self.roles_part(one, other) {
-            return true;
+        let _terms = self.implied.terms();
+        if !same_term(one, other) {
+            return false;
         }
-        self.roles_part(other, one)
-    }
-
-    /// Whether an axiom parts the two attributes, named in one order or in the other.
-    pub fn attrs_meet(&self, one: Term, other: Term) -> bool
-        ensures { IsTrue result ↔ AttrsMeet self.now.axioms one other }
-    {
-        if self.attrs_part(one, other) {
-            return true;
-        }
-        self.attrs_part(other, one)
-    }
-
-    /// Whether something above both attributes is functional.
-    pub fn attrs_bound(&self, one: Term, other: Term) -> bool
-        ensures { IsTrue result ↔ AttrsBound self.now.axioms one other }
-    {
-        self.attrs_bind(one, other)
-    }
-
-    /// Whether something above both roles is functional.
-    pub fn roles_bound(&self, one: RoleSide, other: RoleSide) -> bool
-        ensures { IsTrue result ↔ RolesBound self.now.axioms one other }
-    {
-        self.roles_bind(one, other)
+        is_set(self.of_attrs.as_slice(), one)
     }
 
     /// Whether the term is a role.
-    pub fn is_role(&self, term: Term) -> bool
+    pub(crate) fn is_role(&self, term: Term) -> bool
         ensures { IsTrue result ↔ IsTerm self.now term kind.Role }
     {
-        self.implied.is_role(term)
+        self.implied().is_role(term)
     }
 
+    /// The number of terms.
     pub fn terms(&self) -> usize
         ensures count { result ≡ length self.now.terms }
-        ensures small { result ≤ 4000 }
+        ensures sound { IsOntology self.now }
     {
-        self.implied.terms()
-    }
-
-    fn concepts_part(&self, one: Basic, other: Basic) -> bool
-        ensures { IsTrue result ↔ SomeAxiom self.now.axioms (PartsConcepts self.now.axioms one other) }
-    {
-        for it in self.axioms() {
-            if self.concepts_part_by(one, other, it) {
-                return true;
-            }
-        }
-        false
-    }
-
-    fn concepts_part_by(&self, one: Basic, other: Basic, it: &Axiom) -> bool
-        ensures { IsTrue result ↔ PartsConcepts self.now.axioms one other it.now }
-    {
-        match it {
-            Axiom::ConceptApart(d, e) => self.implied.concept(one, *d)
-                && self.implied.concept(other, *e),
-            _ => false,
-        }
-    }
-
-    fn roles_part(&self, one: RoleSide, other: RoleSide) -> bool
-        ensures { IsTrue result ↔ SomeAxiom self.now.axioms (PartsRoles self.now.axioms one other) }
-    {
-        for it in self.axioms() {
-            if self.roles_part_by(one, other, it) {
-                return true;
-            }
-        }
-        false
-    }
-
-    fn roles_part_by(&self, one: RoleSide, other: RoleSide, it: &Axiom) -> bool
-        ensures { IsTrue result ↔ PartsRoles self.now.axioms one other it.now }
-    {
-        match it {
-            Axiom::RoleApart(v, w) => self.implied.role(one, *v) && self.implied.role(other, *w),
-            _ => false,
-        }
-    }
-
-    fn attrs_part(&self, one: Term, other: Term) -> bool
-        ensures { IsTrue result ↔ SomeAxiom self.now.axioms (PartsAttrs self.now.axioms one other) }
-    {
-        for it in self.axioms() {
-            if self.attrs_part_by(one, other, it) {
-                return true;
-            }
-        }
-        false
-    }
-
-    fn attrs_part_by(&self, one: Term, other: Term, it: &Axiom) -> bool
-        ensures { IsTrue result ↔ PartsAttrs self.now.axioms one other it.now }
-    {
-        match it {
-            Axiom::AttrApart(v, w) => self.implied.attr(one, *v) && self.implied.attr(other, *w),
-            _ => false,
-        }
-    }
-
-    fn roles_bind(&self, one: RoleSide, other: RoleSide) -> bool
-        ensures { IsTrue result ↔ SomeAxiom self.now.axioms (BindsRoles self.now.axioms one other) }
-    {
-        for it in self.axioms() {
-            if self.roles_bind_by(one, other, it) {
-                return true;
-            }
-        }
-        false
-    }
-
-    fn roles_bind_by(&self, one: RoleSide, other: RoleSide, it: &Axiom) -> bool
-        ensures { IsTrue result ↔ BindsRoles self.now.axioms one other it.now }
-    {
-        match it {
-            Axiom::FunctionalRole(v) => self.implied.role(one, *v) && self.implied.role(other, *v),
-            _ => false,
-        }
-    }
-
-    fn attrs_bind(&self, one: Term, other: Term) -> bool
-        ensures { IsTrue result ↔ SomeAxiom self.now.axioms (BindsAttrs self.now.axioms one other) }
-    {
-        for it in self.axioms() {
-            if self.attrs_bind_by(one, other, it) {
-                return true;
-            }
-        }
-        false
-    }
-
-    fn attrs_bind_by(&self, one: Term, other: Term, it: &Axiom) -> bool
-        ensures { IsTrue result ↔ BindsAttrs self.now.axioms one other it.now }
-    {
-        match it {
-            Axiom::FunctionalAttr(v) => self.implied.attr(one, *v) && self.implied.attr(other, *v),
-            _ => false,
-        }
-    }
-
-    fn attrs_range(&self, one: Term, other: Term, datatype: &Name) -> bool
-        ensures { IsTrue result ↔ SomeAxiom self.now.axioms (RangesAttrs self.now.axioms one other datatype.now) }
-    {
-        for it in self.axioms() {
-            if self.attrs_range_by(one, other, datatype, it) {
-                return true;
-            }
-        }
-        false
-    }
-
-    fn attrs_range_by(&self, one: Term, other: Term, datatype: &Name, it: &Axiom) -> bool
-        ensures { IsTrue result ↔ RangesAttrs self.now.axioms one other datatype.now it.now }
-    {
-        match it {
-            Axiom::Range(v, e) => !datatype.is(e)
-                && self.implied.attr(one, *v)
-                && self.implied.attr(other, *v),
-            _ => false,
-        }
+        self.implied().terms()
     }
 }

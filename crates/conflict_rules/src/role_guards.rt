@@ -1,16 +1,15 @@
-ghost use Rattle.std.specs.Prelude.{◌≡◌, ◌≤◌, ◌↔◌, ◌⊎◌, ◌∷◌, [], ℕ, IsTrue, IfOk, OnOk, Contains, length};
+ghost use Rattle.std.specs.Prelude.{◌≡◌, ◌≤◌, ◌*◌, ◌↔◌, ◌⊎◌, ◌∷◌, [], ℕ, IsTrue, IfOk, OnOk, Contains, length};
 ghost use Rattle.dl_base.specs.Clash.{HasClash};
 ghost use Rattle.dl_base.specs.Ontologies.{Knows};
 ghost use Rattle.dl_base.specs.Patterns.{Matches};
-ghost use Rattle.dl_base.specs.Validity.{IsValid};
 ghost use Rattle.dl_base.specs.declared.patterns.Pattern as pattern_type;
 ghost use Rattle.dl_base.specs.declared.patterns.Pattern.TheVariants as asked;
 ghost use Rattle.dl_base.specs.declared.statements.Fact as fact_type;
 ghost use Rattle.dl_base.specs.declared.statements.Fact.TheVariants as fact;
 ghost use Rattle.dl_base.specs.declared.terms.RoleSide.TheVariants.{Direct, Inverse};
-ghost use Rattle.conflict_rules.specs.Counts.{naming, AreAdded};
-ghost use Rattle.conflict_rules.specs.Guards.{RolesMeet, RolesBound};
-ghost use Rattle.conflict_rules.specs.RoleGuards.{IsRoleGuardAt, IsOtherGuardAt, IsKindGuardAt, AreRoleGuardsBelow};
+ghost use Rattle.conflict_rules.specs.Counts.{naming, AreAdded, AreGuardsBelow};
+ghost use Rattle.dl_laws.specs.Meeting.{AreDisjointRoles, ShareFunctionalRole};
+ghost use Rattle.conflict_rules.specs.RoleGuards.{IsRoleGuardAt, IsOtherGuardAt, IsKindGuardAt};
 
 use crate::conflicts::Conflicts;
 use dl_base::{Basic, Name, OutOfMemory, Pattern, RoleSide, Term};
@@ -18,19 +17,20 @@ use std::alloc::Global;
 
 impl Conflicts {
     /// The patterns of the facts that clash with the role fact.
-    pub fn guards_of_role(
+    pub(crate) fn guards_of_role(
         &self,
         alloc: Global,
         role: Term,
         from: &Name,
         to: &Name,
     ) -> Result<Vec<Pattern>, OutOfMemory>
-        requires valid { IsValid self.now.axioms }
-        requires alone { ¬ HasClash self.now.axioms (fact.Role role from.now to.now ∷ []) }
+        requires { ¬ HasClash self.now.axioms (fact.Role role from.now to.now ∷ []) }
         ensures exact { IfOk result (λ guards. (g : fact_type.Fact) → Knows self.now g → ¬ HasClash self.now.axioms (g ∷ [])
             → ((p : pattern_type.Pattern) × Contains guards.items p × Matches p g) ↔ HasClash self.now.axioms (fact.Role role from.now to.now ∷ g ∷ [])) }
         ensures few { IfOk result (λ guards. (n : ℕ) → naming n guards.items ≤ 8) }
+        ensures size { IfOk result (λ guards. length guards.items ≤ 8 * length self.now.terms) }
     {
+        let _terms = self.terms();
         let guards = self.all_role_guards(alloc, role, from, to)?;
         Ok(guards)
     }
@@ -42,7 +42,7 @@ impl Conflicts {
         from: &Name,
         to: &Name,
     ) -> Result<Vec<Pattern>, OutOfMemory>
-        ensures { IfOk result (λ guards. AreRoleGuardsBelow self.now role from.now to.now (length self.now.terms) guards.items) }
+        ensures { IfOk result (λ guards. AreGuardsBelow (IsKindGuardAt self.now role from.now to.now) 8 (length self.now.terms) guards.items) }
     {
         let mut guards = Vec::new(alloc);
         for number in 0..self.terms() {
@@ -176,13 +176,13 @@ impl Conflicts {
         Ok(())
     }
 
-    fn either_meets(&self, role: Term, one: RoleSide, other: RoleSide) -> bool
-        ensures { IsTrue result ↔ (RolesMeet self.now.axioms (Direct role) one ⊎ RolesMeet self.now.axioms (Inverse role) other) }
+    fn either_disjoint(&self, role: Term, one: RoleSide, other: RoleSide) -> bool
+        ensures { IsTrue result ↔ (AreDisjointRoles self.now.axioms (Direct role) one ⊎ AreDisjointRoles self.now.axioms (Inverse role) other) }
     {
-        if self.roles_meet(RoleSide::Direct(role), one) {
+        if self.disjoint_roles(RoleSide::Direct(role), one) {
             return true;
         }
-        self.roles_meet(RoleSide::Inverse(role), other)
+        self.disjoint_roles(RoleSide::Inverse(role), other)
     }
 
     fn add_both(
@@ -196,9 +196,9 @@ impl Conflicts {
         term: Term,
         guards: &mut Vec<Pattern>,
     ) -> Result<(), OutOfMemory>
-        ensures { OnOk result (AreAdded (λ p. (p ≡ asked.RoleBoth term from.now to.now) × (RolesMeet self.now.axioms (Direct role) one ⊎ RolesMeet self.now.axioms (Inverse role) other)) term.0 1 guards.old.items guards.new.items) }
+        ensures { OnOk result (AreAdded (λ p. (p ≡ asked.RoleBoth term from.now to.now) × (AreDisjointRoles self.now.axioms (Direct role) one ⊎ AreDisjointRoles self.now.axioms (Inverse role) other)) term.0 1 guards.old.items guards.new.items) }
     {
-        if !self.either_meets(role, one, other) {
+        if !self.either_disjoint(role, one, other) {
             return Ok(());
         }
         guards.push(Pattern::RoleBoth(term, from.copy(alloc)?, to.copy(alloc)?))?;
@@ -214,9 +214,9 @@ impl Conflicts {
         term: Term,
         guards: &mut Vec<Pattern>,
     ) -> Result<(), OutOfMemory>
-        ensures { OnOk result (AreAdded (λ p. (p ≡ asked.RoleFromExcept term from.now to.now) × RolesBound self.now.axioms (Direct role) (Direct term)) term.0 1 guards.old.items guards.new.items) }
+        ensures { OnOk result (AreAdded (λ p. (p ≡ asked.RoleFromExcept term from.now to.now) × ShareFunctionalRole self.now.axioms (Direct role) (Direct term)) term.0 1 guards.old.items guards.new.items) }
     {
-        if !self.roles_bound(RoleSide::Direct(role), RoleSide::Direct(term)) {
+        if !self.share_functional_role(RoleSide::Direct(role), RoleSide::Direct(term)) {
             return Ok(());
         }
         guards.push(Pattern::RoleFromExcept(term, from.copy(alloc)?, to.copy(alloc)?))?;
@@ -232,9 +232,9 @@ impl Conflicts {
         term: Term,
         guards: &mut Vec<Pattern>,
     ) -> Result<(), OutOfMemory>
-        ensures { OnOk result (AreAdded (λ p. (p ≡ asked.RoleToExcept term to.now from.now) × RolesBound self.now.axioms (Inverse role) (Inverse term)) term.0 1 guards.old.items guards.new.items) }
+        ensures { OnOk result (AreAdded (λ p. (p ≡ asked.RoleToExcept term to.now from.now) × ShareFunctionalRole self.now.axioms (Inverse role) (Inverse term)) term.0 1 guards.old.items guards.new.items) }
     {
-        if !self.roles_bound(RoleSide::Inverse(role), RoleSide::Inverse(term)) {
+        if !self.share_functional_role(RoleSide::Inverse(role), RoleSide::Inverse(term)) {
             return Ok(());
         }
         guards.push(Pattern::RoleToExcept(term, to.copy(alloc)?, from.copy(alloc)?))?;

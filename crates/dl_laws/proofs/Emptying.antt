@@ -18,9 +18,9 @@ use Rattle.dl_base.specs.Reach.{ConceptStep, ConceptReaches}
 use Rattle.dl_laws.specs.Rows as rows
 use Rattle.dl_laws.specs.Rows.{Leads, Contradict, Oppose, Start, OfConcept, OfRole, OfAttr, row, subject, concept}
 use Rattle.dl_laws.specs.Emptiness as e
-use Rattle.dl_laws.specs.Emptiness.{NeedStep, Needs, IsFilled, Torn, IsTorn, Collide, IsEmptyConcept, IsEmptyRole, IsEmptyAttr}
+use Rattle.dl_laws.specs.Emptiness.{NeedStep, Needs, IsFilled, IsContradictory, IsUnsatisfiable, Collide, IsEmptyConcept, IsEmptyRole, IsEmptyAttr}
 use Rattle.dl_laws.proofs.RowLaws.{leads_trans}
-use Rattle.dl_laws.proofs.Telling.{opposed_is}
+use Rattle.dl_laws.proofs.Saying.{opposed_is}
 
 module _ (axioms : List Axiom) where
   step_carries : (x : Thing) (k l : Basic) → ConceptStep axioms k l → Carries axioms (HasConcept x k) (HasConcept x l)
@@ -72,12 +72,12 @@ module _ (axioms : List Axiom) where
   filled q f k (inl h) = leads_trans axioms (IsWitnessedIn q f) (HasConcept (WitnessIn q f) (basic.Exists (inverse q))) (HasConcept (WitnessIn q f) k) (rows.onward (IsWitnessedIn q f) (IsWitnessedIn q f) (HasConcept (WitnessIn q f) (basic.Exists (inverse q))) (rows.itself (IsWitnessedIn q f)) (d.witness_in q (inverse q) f refl)) (leads_concept (WitnessIn q f) (basic.Exists (inverse q)) k h)
   filled q f k (inr h) = leads_trans axioms (IsWitnessedIn q f) (HasConcept (WitnessIn q f) f) (HasConcept (WitnessIn q f) k) (rows.onward (IsWitnessedIn q f) (IsWitnessedIn q f) (HasConcept (WitnessIn q f) f) (rows.itself (IsWitnessedIn q f)) (d.witness_has q f)) (leads_concept (WitnessIn q f) f k h)
 
-  torn_opposes : (y : Thing) (k : Basic) → Torn axioms k → Oppose axioms (HasConcept y k) (HasConcept y k)
-  torn_opposes y k (e.concepts z v w m h i) = (HasConcept y v, HasConcept y w, rows.concepts y v w m, leads_concept y k v h, leads_concept y k w i)
-  torn_opposes y k (e.roles q r s m h i) = twice (HasConcept y (basic.Exists q)) (IsWitnessed q) (to_witnessed y q) (rows.witness_roles q r s m h i)
-  torn_opposes y k (e.attrs u v w m h i) = twice (HasConcept y (basic.Domain u)) (IsValued u) (to_valued y u) (rows.value_attrs u v w m h i)
-  torn_opposes y k (e.ranges u v w x z m n ne h i) = twice (HasConcept y (basic.Domain u)) (IsValued u) (to_valued y u) (rows.value_ranges u v w x z m n ne h i)
-  torn_opposes y k (e.fillers b f v w q m n h i) =
+  contradictory_opposes : (y : Thing) (k : Basic) → IsContradictory axioms k → Oppose axioms (HasConcept y k) (HasConcept y k)
+  contradictory_opposes y k (e.concepts z v w m h i) = (HasConcept y v, HasConcept y w, rows.concepts y v w m, leads_concept y k v h, leads_concept y k w i)
+  contradictory_opposes y k (e.roles q r s m h i) = twice (HasConcept y (basic.Exists q)) (IsWitnessed q) (to_witnessed y q) (rows.witness_roles q r s m h i)
+  contradictory_opposes y k (e.attrs u v w m h i) = twice (HasConcept y (basic.Domain u)) (IsValued u) (to_valued y u) (rows.value_attrs u v w m h i)
+  contradictory_opposes y k (e.ranges u v w x z m n ne h i) = twice (HasConcept y (basic.Domain u)) (IsValued u) (to_valued y u) (rows.value_ranges u v w x z m n ne h i)
+  contradictory_opposes y k (e.fillers b f v w q m n h i) =
       let x = WitnessIn q f in
       let to = chosen y k f q m in (
         HasConcept x v,
@@ -88,10 +88,10 @@ module _ (axioms : List Axiom) where
       )
 
   -- a thing in an impossible concept
-  pub impossible : (x : Thing) (b : Basic) → IsTorn axioms b → Oppose axioms (HasConcept x b) (HasConcept x b)
+  pub impossible : (x : Thing) (b : Basic) → IsUnsatisfiable axioms b → Oppose axioms (HasConcept x b) (HasConcept x b)
   impossible x b (k, n, t) =
       let at = somewhere x b k n in
-      oppose_before (HasConcept x b) (HasConcept x b) (HasConcept at.0 k) (HasConcept at.0 k) at.1 at.1 (torn_opposes at.0 k t)
+      oppose_before (HasConcept x b) (HasConcept x b) (HasConcept at.0 k) (HasConcept at.0 k) at.1 at.1 (contradictory_opposes at.0 k t)
 
   -- a start row puts its subject into its concept
   pub to_concept : (s : Start) → Leads axioms (row s) (HasConcept (Named (subject s)) (concept s))
@@ -99,7 +99,7 @@ module _ (axioms : List Axiom) where
   to_concept (OfRole a b q) = rows.onward (HasRole a b q) (HasRole a b q) (HasConcept (Named a) (basic.Exists q)) (rows.itself (HasRole a b q)) (d.has_some a b q)
   to_concept (OfAttr a v u) = rows.onward (HasAttr a v u) (HasAttr a v u) (HasConcept (Named a) (basic.Domain u)) (rows.itself (HasAttr a v u)) (d.has_domain a v u)
 
-  pub impossible_start : (s : Start) → IsTorn axioms (concept s) → Oppose axioms (row s) (row s)
+  pub impossible_start : (s : Start) → IsUnsatisfiable axioms (concept s) → Oppose axioms (row s) (row s)
   impossible_start s t =
       let x = HasConcept (Named (subject s)) (concept s) in
       oppose_before (row s) (row s) x x (to_concept s) (to_concept s) (impossible (Named (subject s)) (concept s) t)
@@ -133,25 +133,25 @@ module _ (axioms : List Axiom) where
   IsOut s = (a : List ℕ) × (x : Value) × (q : Term) × (v : Term) × (k : List ℕ) × (s ≡ OfAttr a x q) × Contains axioms (Range v k) × (x.datatype ≢ k) × AttrReaches axioms q v
 
   -- a row that collides with itself
-  pub self_is : (s : Start) → Collide axioms s s → IsTorn axioms (concept s) ⊎ IsOut s
+  pub self_is : (s : Start) → Collide axioms s s → IsUnsatisfiable axioms (concept s) ⊎ IsOut s
   self_is s (e.concepts b k i m h j) = inl (concept s, e.itself (concept s), e.concepts (concept s) b k m h j)
   self_is s (e.roles a b q r v w i j m h l) =
       let same : r ≡ q = cc in
-      inl (concept s, e.itself (concept s), subst (Torn axioms) (sym (ap concept i)) (e.roles q v w m h (subst (λ z. RoleReaches axioms z w) same l)))
+      inl (concept s, e.itself (concept s), subst (IsContradictory axioms) (sym (ap concept i)) (e.roles q v w m h (subst (λ z. RoleReaches axioms z w) same l)))
   self_is s (e.attrs a x q r v w i j m h l) =
       let same : r ≡ q = cc in
-      inl (concept s, e.itself (concept s), subst (Torn axioms) (sym (ap concept i)) (e.attrs q v w m h (subst (λ z. AttrReaches axioms z w) same l)))
+      inl (concept s, e.itself (concept s), subst (IsContradictory axioms) (sym (ap concept i)) (e.attrs q v w m h (subst (λ z. AttrReaches axioms z w) same l)))
   self_is s (e.partners a x y q r v i j m ne h l) = let same : x ≡ y = cc in absurd (ne same)
   self_is s (e.values a x y q r v i j m ne h l) = let same : x ≡ y = cc in absurd (ne same)
   self_is s (e.range a x q r v k i j m ne h l) = inr (a, x, q, v, k, i, m, ne, h)
 
-  pub alone_is : (s : Start) → Oppose axioms (row s) (row s) → IsTorn axioms (concept s) ⊎ IsOut s
+  pub alone_is : (s : Start) → Oppose axioms (row s) (row s) → IsUnsatisfiable axioms (concept s) ⊎ IsOut s
   alone_is s h = ⊎_elim (λ t. inl t) (λ k. self_is s k) (opposed_is axioms s s h)
 
-  pub empty_concept_is : (b : Basic) → IsEmptyConcept axioms b ↔ IsTorn axioms b
+  pub empty_concept_is : (b : Basic) → IsEmptyConcept axioms b ↔ IsUnsatisfiable axioms b
   empty_concept_is b = (λ h. ⊎_elim (λ t. t) (λ (o : IsOut (OfConcept [] b)). cc) (alone_is (OfConcept [] b) (h [])), λ t a. impossible (Named a) b t)
 
-  pub empty_role_is : (p : Term) → IsEmptyRole axioms p ↔ IsTorn axioms (basic.Exists (Direct p))
+  pub empty_role_is : (p : Term) → IsEmptyRole axioms p ↔ IsUnsatisfiable axioms (basic.Exists (Direct p))
   empty_role_is p = (
     λ h. ⊎_elim (λ t. t) (λ (o : IsOut (OfRole [] (0 ∷ []) (Direct p))). cc) (alone_is (OfRole [] (0 ∷ []) (Direct p)) (h [] (0 ∷ []) (λ e. cc))),
     λ t a b ne. impossible_start (OfRole a b (Direct p)) t,
@@ -160,7 +160,7 @@ module _ (axioms : List Axiom) where
   abbrev of_type : List ℕ → Value
   of_type k = record { datatype = k; tag = []; text = [] }
 
-  ranged_twice : (u : Term) (v w : Term) (k l : List ℕ) → Contains axioms (Range v k) → Contains axioms (Range w l) → k ≢ l → AttrReaches axioms u v → AttrReaches axioms u w → IsTorn axioms (basic.Domain u)
+  ranged_twice : (u : Term) (v w : Term) (k l : List ℕ) → Contains axioms (Range v k) → Contains axioms (Range w l) → k ≢ l → AttrReaches axioms u v → AttrReaches axioms u w → IsUnsatisfiable axioms (basic.Domain u)
   ranged_twice u v w k l m n ne h i = (basic.Domain u, e.itself (basic.Domain u), e.ranges u v w k l m n ne h i)
 
   out_of : (u : Term) (a : List ℕ) (x : Value) → IsOut (OfAttr a x u) → (v : Term) × (k : List ℕ) × Contains axioms (Range v k) × (x.datatype ≢ k) × AttrReaches axioms u v
@@ -169,8 +169,8 @@ module _ (axioms : List Axiom) where
       let two : y ≡ x = cc in
       (v, k, m, subst (λ (z : Value). z.datatype ≢ k) two ne, subst (λ z. AttrReaches axioms z v) one h)
 
-  empty_attr_torn : (u : Term) → IsEmptyAttr axioms u → IsTorn axioms (basic.Domain u)
-  empty_attr_torn u h = ⊎_elim (λ t. t)
+  empty_attr_unsatisfiable : (u : Term) → IsEmptyAttr axioms u → IsUnsatisfiable axioms (basic.Domain u)
+  empty_attr_unsatisfiable u h = ⊎_elim (λ t. t)
       (λ o.
       let one = out_of u [] (of_type []) o in
       ⊎_elim (λ t. t)
@@ -178,5 +178,5 @@ module _ (axioms : List Axiom) where
       (alone_is (OfAttr [] (of_type one.1) u) (h [] (of_type one.1))))
       (alone_is (OfAttr [] (of_type []) u) (h [] (of_type [])))
 
-  pub empty_attr_is : (u : Term) → IsEmptyAttr axioms u ↔ IsTorn axioms (basic.Domain u)
-  empty_attr_is u = (empty_attr_torn u, λ t a v. impossible_start (OfAttr a v u) t)
+  pub empty_attr_is : (u : Term) → IsEmptyAttr axioms u ↔ IsUnsatisfiable axioms (basic.Domain u)
+  empty_attr_is u = (empty_attr_unsatisfiable u, λ t a v. impossible_start (OfAttr a v u) t)

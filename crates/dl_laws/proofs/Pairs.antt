@@ -7,9 +7,9 @@ use Rattle.dl_base.specs.Clash.{HasClash}
 use Rattle.dl_base.proofs.Members.{here, there, alone, cons_cases}
 use Rattle.dl_laws.specs.Rows.{Oppose, Start, row, subject, concept, starts}
 use Rattle.dl_laws.specs.Emptiness as e
-use Rattle.dl_laws.specs.Emptiness.{IsTorn, Collide}
+use Rattle.dl_laws.specs.Emptiness.{IsUnsatisfiable, Collide}
 use Rattle.dl_laws.proofs.RowLaws.{clash_opposed, opposed_clash}
-use Rattle.dl_laws.proofs.Telling.{opposed_is}
+use Rattle.dl_laws.proofs.Saying.{opposed_is}
 use Rattle.dl_laws.proofs.Emptying.{impossible_start, collide_opposes}
 
 -- start rows of equal things are about one individual
@@ -24,7 +24,7 @@ collide_subject axioms s t (e.range a x q r v k i j m ne h l) = ap subject i ∙
 module _ (axioms : List Axiom) where
   -- two of the fact's start rows collide, or one is impossible
   abbrev pub IsSelfClash : Fact → Type 0
-  IsSelfClash f = (s : Start) × (t : Start) × Contains (starts f) s × Contains (starts f) t × (IsTorn axioms (concept s) ⊎ Collide axioms s t)
+  IsSelfClash f = (s : Start) × (t : Start) × Contains (starts f) s × Contains (starts f) t × (IsUnsatisfiable axioms (concept s) ⊎ Collide axioms s t)
 
   pub alone_clash : (f : Fact) → HasClash axioms (f ∷ []) ↔ IsSelfClash f
   alone_clash f = (
@@ -47,18 +47,18 @@ module _ (axioms : List Axiom) where
   one_fact : (f : Fact) (s t : Start) → Contains (starts f) s → Contains (starts f) t → Oppose axioms (row s) (row t) → HasClash axioms (f ∷ [])
   one_fact f s t m n k = opposed_clash axioms (f ∷ []) (f, f, s, t, here f [], here f [], m, n, k)
 
-  is_torn : (f : Fact) (s : Start) → Contains (starts f) s → IsTorn axioms (concept s) → HasClash axioms (f ∷ [])
-  is_torn f s m k = one_fact f s s m m (impossible_start axioms s k)
+  is_unsatisfiable : (f : Fact) (s : Start) → Contains (starts f) s → IsUnsatisfiable axioms (concept s) → HasClash axioms (f ∷ [])
+  is_unsatisfiable f s m k = one_fact f s s m m (impossible_start axioms s k)
 
   of_two : (f g x y : Fact) (s t : Start) → (f ≡ x) ⊎ (g ≡ x) → (f ≡ y) ⊎ (g ≡ y) → Contains (starts x) s → Contains (starts y) t → Oppose axioms (row s) (row t) → Either f g
   of_two f g x y s t (inl i) (inl j) m n k = inl (one_fact f s t (subst (λ z. Contains (starts z) s) (sym i) m) (subst (λ z. Contains (starts z) t) (sym j) n) k)
   of_two f g x y s t (inr i) (inr j) m n k = inr (inl (one_fact g s t (subst (λ z. Contains (starts z) s) (sym i) m) (subst (λ z. Contains (starts z) t) (sym j) n) k))
   of_two f g x y s t (inl i) (inr j) m n k =
       let at = subst (λ z. Contains (starts z) s) (sym i) m in
-      ⊎_elim (λ h. inl (is_torn f s at h)) (λ h. inr (inr (s, t, at, subst (λ z. Contains (starts z) t) (sym j) n, inl h))) (opposed_is axioms s t k)
+      ⊎_elim (λ h. inl (is_unsatisfiable f s at h)) (λ h. inr (inr (s, t, at, subst (λ z. Contains (starts z) t) (sym j) n, inl h))) (opposed_is axioms s t k)
   of_two f g x y s t (inr i) (inl j) m n k =
       let at = subst (λ z. Contains (starts z) s) (sym i) m in
-      ⊎_elim (λ h. inr (inl (is_torn g s at h))) (λ h. inr (inr (t, s, subst (λ z. Contains (starts z) t) (sym j) n, at, inr h))) (opposed_is axioms s t k)
+      ⊎_elim (λ h. inr (inl (is_unsatisfiable g s at h))) (λ h. inr (inr (t, s, subst (λ z. Contains (starts z) t) (sym j) n, at, inr h))) (opposed_is axioms s t k)
 
   among_two : (f g x : Fact) → Contains (f ∷ g ∷ []) x → (f ≡ x) ⊎ (g ≡ x)
   among_two f g x m = ⊎_elim (λ i. inl i) (λ n. inr (alone g x n)) (cons_cases f (g ∷ []) x m)

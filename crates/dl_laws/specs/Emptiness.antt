@@ -38,15 +38,15 @@ abbrev pub IsFilled : List Axiom → RoleSide → Basic → Basic → Type 0
 IsFilled axioms q e c = ConceptReaches axioms (basic.Exists (inverse q)) c ⊎ ConceptReaches axioms e c
 
 -- who is in the concept contradicts the axioms at once, or by its value, or at its witness
-pub data Torn (axioms : List Axiom) : Basic → Type 0 where
-  concepts : (c d e : Basic) → Contains axioms (ConceptApart d e) → ConceptReaches axioms c d → ConceptReaches axioms c e → Torn axioms c
-  roles : (q r s : RoleSide) → Contains axioms (RoleApart r s) → RoleReaches axioms q r → RoleReaches axioms q s → Torn axioms (basic.Exists q)
-  attrs : (u v w : Term) → Contains axioms (AttrApart v w) → AttrReaches axioms u v → AttrReaches axioms u w → Torn axioms (basic.Domain u)
-  ranges : (u v w : Term) (d e : List ℕ) → Contains axioms (Range v d) → Contains axioms (Range w e) → d ≢ e → AttrReaches axioms u v → AttrReaches axioms u w → Torn axioms (basic.Domain u)
-  fillers : (b c d e : Basic) (q : RoleSide) → Contains axioms (ConceptSome b q c) → Contains axioms (ConceptApart d e) → IsFilled axioms q c d → IsFilled axioms q c e → Torn axioms b
+pub data IsContradictory (axioms : List Axiom) : Basic → Type 0 where
+  concepts : (c d e : Basic) → Contains axioms (ConceptApart d e) → ConceptReaches axioms c d → ConceptReaches axioms c e → IsContradictory axioms c
+  roles : (q r s : RoleSide) → Contains axioms (RoleApart r s) → RoleReaches axioms q r → RoleReaches axioms q s → IsContradictory axioms (basic.Exists q)
+  attrs : (u v w : Term) → Contains axioms (AttrApart v w) → AttrReaches axioms u v → AttrReaches axioms u w → IsContradictory axioms (basic.Domain u)
+  ranges : (u v w : Term) (d e : List ℕ) → Contains axioms (Range v d) → Contains axioms (Range w e) → d ≢ e → AttrReaches axioms u v → AttrReaches axioms u w → IsContradictory axioms (basic.Domain u)
+  fillers : (b c d e : Basic) (q : RoleSide) → Contains axioms (ConceptSome b q c) → Contains axioms (ConceptApart d e) → IsFilled axioms q c d → IsFilled axioms q c e → IsContradictory axioms b
 
-abbrev pub IsTorn : List Axiom → Basic → Type 0
-IsTorn axioms b = (c : Basic) × Needs axioms b c × Torn axioms c
+abbrev pub IsUnsatisfiable : List Axiom → Basic → Type 0
+IsUnsatisfiable axioms b = (c : Basic) × Needs axioms b c × IsContradictory axioms c
 
 -- what two rows say of named individuals contradicts the axioms
 pub data Collide (axioms : List Axiom) (s t : Start) : Type 0 where

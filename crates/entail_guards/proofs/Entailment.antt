@@ -12,8 +12,8 @@ use Rattle.dl_base.specs.Derivation.{InClosure, row_of}
 use Rattle.dl_base.specs.Clash.{RoleReaches, AttrReaches}
 use Rattle.dl_base.proofs.Members.{here, there, alone, cons_cases}
 use Rattle.dl_laws.specs.Rows.{Start, OfConcept, OfRole, OfAttr, starts}
-use Rattle.dl_laws.proofs.Telling.{Says}
-use Rattle.decision_laws.proofs.ClashTelling.{entailed_is}
+use Rattle.dl_laws.proofs.Saying.{Says}
+use Rattle.dl_laws.proofs.ClashTelling.{entailed_is}
 use Rattle.entail_guards.specs.Entailing.{Entails}
 
 module _ (axioms : List Axiom) where

@@ -1,13 +1,13 @@
-ghost use Rattle.std.specs.Prelude.{◌≡◌, ◌↔◌, ◌⊎◌, ◌≤◌, ◌∷◌, [], IsTrue, length};
+ghost use Rattle.std.specs.Prelude.{◌≡◌, ◌↔◌, ◌⊎◌, ◌∷◌, [], IsTrue, IfOk, length};
 ghost use Rattle.dl_base.specs.Derivation.{InClosure};
-ghost use Rattle.dl_base.specs.Ontologies.{IsKnown};
+ghost use Rattle.dl_base.specs.Validity.{IsOntology};
 ghost use Rattle.dl_base.specs.Reach.{ConceptReaches};
 ghost use Rattle.dl_base.specs.Clash.{RoleReaches};
 ghost use Rattle.dl_base.specs.declared.terms.Basic.TheVariants as basic;
 ghost use Rattle.dl_base.specs.declared.terms.RoleSide.TheVariants.{Direct};
 ghost use Rattle.entail_guards.specs.Entailing.{EntailsClass, EntailsRole, EntailsAttr};
 
-use dl_base::{Basic, Fact, Name, RoleSide, Term, Value};
+use dl_base::{Basic, Fact, Name, OutOfMemory, RoleSide, Term, Value};
 use std::marker::Model;
 use tbox_closure::Implied;
 
@@ -26,16 +26,18 @@ impl Model for Entailers {
 }
 
 impl Entailers {
-    pub fn of(implied: Implied) -> Entailers
-        ensures { result ≡ implied }
+    /// What follows from the inclusions of the ontology, shared.
+    pub fn compile(implied: &Implied) -> Result<Entailers, OutOfMemory>
+        ensures { IfOk result (λ entailers. entailers ≡ implied.now) }
     {
-        Entailers { implied }
+        let implied = implied.share()?;
+        Ok(Entailers { implied })
     }
 
+    /// The number of terms.
     pub fn terms(&self) -> usize
         ensures count { result ≡ length self.now.terms }
-        ensures small { result ≤ 4000 }
-        ensures known { IsKnown self.now }
+        ensures sound { IsOntology self.now }
     {
         self.implied.terms()
     }

@@ -21,12 +21,15 @@ use Rattle.dl_base.specs.Reach.{ConceptStep, ConceptReaches}
 use Rattle.dl_base.specs.Ontologies.{Theory, IsTerm, KnowsRole, KnowsConcept, KnowsAxiom, IsKnown}
 use Rattle.dl_base.proofs.Members.{alone, nowhere, cons_cases}
 use Rattle.dl_laws.specs.Emptiness as e
-use Rattle.dl_laws.specs.Emptiness.{Torn}
+use Rattle.dl_laws.specs.Emptiness.{IsContradictory}
 use Rattle.tbox_closure.specs.declared.edges.Part.TheVariants as part
 use Rattle.tbox_closure.specs.Graphs.{AreBelow}
-use Rattle.tbox_closure.specs.Edges.{all_pairs, concept_node, merged_node, role_node, concept_edges, role_edges, attr_edges, need_edges}
-use Rattle.tbox_closure.specs.Torn.{term_number}
-use Rattle.tbox_closure.proofs.EdgeLaws.{out_of_flat_map}
+use Rattle.tbox_closure.specs.Tables.{term_number}
+use Rattle.dl_laws.specs.Edges.{concept_node, merged_node, role_node, concept_edges, role_edges, attr_edges, need_edges}
+use Rattle.tbox_closure.specs.Edges.{all_edges}
+use Rattle.tbox_closure.specs.declared.disjointness.Disjointness.TheVariants as disjoint
+use Rattle.tbox_closure.specs.Disjointness.{all_pairs, concept_pairs, role_pairs, attr_pairs}
+use Rattle.dl_laws.proofs.EdgeLaws.{out_of_flat_map}
 
 abbrev IsIn : ℕ → ℕ × ℕ → Type 0
 IsIn n k = (k.0 < n) × (k.1 < n)
@@ -51,7 +54,7 @@ module _ (theory : Theory) where
   turned_known (Direct p) h = h
   turned_known (Inverse p) h = h
 
-  concept_in : (b : Basic) → KnowsConcept theory b → concept_node b < nodes
+  pub concept_in : (b : Basic) → KnowsConcept theory b → concept_node b < nodes
   concept_in (basic.Class t) h = let l = term_in t kind.Class h in omega (arith, l)
   concept_in (basic.Exists (Direct t)) h = let l = term_in t kind.Role h in omega (arith, l)
   concept_in (basic.Exists (Inverse t)) h = let l = term_in t kind.Role h in omega (arith, l)
@@ -63,18 +66,18 @@ module _ (theory : Theory) where
   number_in (basic.Exists (Inverse t)) h = term_in t kind.Role h
   number_in (basic.Domain t) h = term_in t kind.Attr h
 
-  merged_in : (b : Basic) → KnowsConcept theory b → merged_node b < nodes
+  pub merged_in : (b : Basic) → KnowsConcept theory b → merged_node b < nodes
   merged_in (basic.Class t) h = let l = term_in t kind.Class h in omega (arith, l)
   merged_in (basic.Exists (Direct t)) h = let l = term_in t kind.Role h in omega (arith, l)
   merged_in (basic.Exists (Inverse t)) h = let l = term_in t kind.Role h in omega (arith, l)
   merged_in (basic.Domain t) h = let l = term_in t kind.Attr h in omega (arith, l)
 
-  role_in : (q : RoleSide) → KnowsRole theory q → role_node q < nodes
+  role_in : (q : RoleSide) → KnowsRole theory q → role_node q < 2 * count
   role_in (Direct t) h = let l = term_in t kind.Role h in omega (arith, l)
   role_in (Inverse t) h = let l = term_in t kind.Role h in omega (arith, l)
 
-  attr_in : (u : Term) → IsTerm theory u kind.Attr → u.0 < nodes
-  attr_in u h = let l = term_in u kind.Attr h in omega (arith, l)
+  attr_in : (u : Term) → IsTerm theory u kind.Attr → u.0 < count
+  attr_in u h = term_in u kind.Attr h
 
   concepts_below : (it : Axiom) (k : ℕ × ℕ) → KnowsAxiom theory it → Contains (concept_edges it) k → IsIn nodes k
   concepts_below (ConceptIn b d) k h m = one nodes (concept_node b) (concept_node d) k (concept_in b h.0) (concept_in d h.1) m
@@ -89,10 +92,10 @@ module _ (theory : Theory) where
   concepts_below (FunctionalAttr u) k h m = absurd (nowhere k m)
   concepts_below (ConceptSome b q d) k h m = one nodes (concept_node b) (concept_node (basic.Exists q)) k (concept_in b h.0) (concept_in (basic.Exists q) h.1) m
 
-  roles_below : (it : Axiom) (k : ℕ × ℕ) → KnowsAxiom theory it → Contains (role_edges it) k → IsIn nodes k
+  roles_below : (it : Axiom) (k : ℕ × ℕ) → KnowsAxiom theory it → Contains (role_edges it) k → IsIn (2 * count) k
   roles_below (ConceptIn b d) k h m = absurd (nowhere k m)
   roles_below (ConceptApart b d) k h m = absurd (nowhere k m)
-  roles_below (RoleIn q r) k h m = two nodes (role_node q) (role_node r) (role_node (inverse q)) (role_node (inverse r)) k
+  roles_below (RoleIn q r) k h m = two (2 * count) (role_node q) (role_node r) (role_node (inverse q)) (role_node (inverse r)) k
       (role_in q h.0) (role_in r h.1) (role_in (inverse q) (turned_known q h.0)) (role_in (inverse r) (turned_known r h.1)) m
   roles_below (RoleApart q r) k h m = absurd (nowhere k m)
   roles_below (AttrIn u w) k h m = absurd (nowhere k m)
@@ -102,12 +105,12 @@ module _ (theory : Theory) where
   roles_below (FunctionalAttr u) k h m = absurd (nowhere k m)
   roles_below (ConceptSome b q d) k h m = absurd (nowhere k m)
 
-  attrs_below : (it : Axiom) (k : ℕ × ℕ) → KnowsAxiom theory it → Contains (attr_edges it) k → IsIn nodes k
+  attrs_below : (it : Axiom) (k : ℕ × ℕ) → KnowsAxiom theory it → Contains (attr_edges it) k → IsIn count k
   attrs_below (ConceptIn b d) k h m = absurd (nowhere k m)
   attrs_below (ConceptApart b d) k h m = absurd (nowhere k m)
   attrs_below (RoleIn q r) k h m = absurd (nowhere k m)
   attrs_below (RoleApart q r) k h m = absurd (nowhere k m)
-  attrs_below (AttrIn u w) k h m = one nodes u.0 w.0 k (attr_in u h.0) (attr_in w h.1) m
+  attrs_below (AttrIn u w) k h m = one count u.0 w.0 k (attr_in u h.0) (attr_in w h.1) m
   attrs_below (AttrApart u w) k h m = absurd (nowhere k m)
   attrs_below (Range u w) k h m = absurd (nowhere k m)
   attrs_below (FunctionalRole q) k h m = absurd (nowhere k m)
@@ -126,22 +129,67 @@ module _ (theory : Theory) where
   needs_below (FunctionalAttr u) k h m = absurd (nowhere k m)
   needs_below (ConceptSome b q d) k h m = two nodes (merged_node b) (merged_node (basic.Exists q)) (merged_node b) (merged_node d) k (merged_in b h.0) (merged_in (basic.Exists q) h.1) (merged_in b h.0) (merged_in d h.2) m
 
-  below_by : (f : Axiom → List (ℕ × ℕ)) → ((it : Axiom) (k : ℕ × ℕ) → KnowsAxiom theory it → Contains (f it) k → IsIn nodes k) → IsKnown theory → (k : ℕ × ℕ) → Contains (flat_map f theory.axioms) k → IsIn nodes k
-  below_by f each known k m = let o = out_of_flat_map f theory.axioms k m in each o.0 k (All-contains (KnowsAxiom theory) theory.axioms o.0 known o.1) o.2
+  concept_pairs_in : (it : Axiom) (k : ℕ × ℕ) → KnowsAxiom theory it → Contains (concept_pairs it) k → IsIn nodes k
+  concept_pairs_in (ConceptIn b d) k h m = absurd (nowhere k m)
+  concept_pairs_in (ConceptApart b d) k h m = one nodes (concept_node b) (concept_node d) k (concept_in b h.0) (concept_in d h.1) m
+  concept_pairs_in (RoleIn q r) k h m = absurd (nowhere k m)
+  concept_pairs_in (RoleApart q r) k h m = absurd (nowhere k m)
+  concept_pairs_in (AttrIn u w) k h m = absurd (nowhere k m)
+  concept_pairs_in (AttrApart u w) k h m = absurd (nowhere k m)
+  concept_pairs_in (Range u w) k h m = absurd (nowhere k m)
+  concept_pairs_in (FunctionalRole q) k h m = absurd (nowhere k m)
+  concept_pairs_in (FunctionalAttr u) k h m = absurd (nowhere k m)
+  concept_pairs_in (ConceptSome b q d) k h m = absurd (nowhere k m)
 
-  pub concept_edges_below : IsKnown theory → AreBelow nodes (all_pairs part.ConceptEdges theory.axioms)
-  concept_edges_below known = below_by concept_edges concepts_below known
+  role_pairs_in : (it : Axiom) (k : ℕ × ℕ) → KnowsAxiom theory it → Contains (role_pairs it) k → IsIn (2 * count) k
+  role_pairs_in (ConceptIn b d) k h m = absurd (nowhere k m)
+  role_pairs_in (ConceptApart b d) k h m = absurd (nowhere k m)
+  role_pairs_in (RoleIn q r) k h m = absurd (nowhere k m)
+  role_pairs_in (RoleApart q r) k h m = one (2 * count) (role_node q) (role_node r) k (role_in q h.0) (role_in r h.1) m
+  role_pairs_in (AttrIn u w) k h m = absurd (nowhere k m)
+  role_pairs_in (AttrApart u w) k h m = absurd (nowhere k m)
+  role_pairs_in (Range u w) k h m = absurd (nowhere k m)
+  role_pairs_in (FunctionalRole q) k h m = absurd (nowhere k m)
+  role_pairs_in (FunctionalAttr u) k h m = absurd (nowhere k m)
+  role_pairs_in (ConceptSome b q d) k h m = absurd (nowhere k m)
 
-  pub role_edges_below : IsKnown theory → AreBelow nodes (all_pairs part.RoleEdges theory.axioms)
-  role_edges_below known = below_by role_edges roles_below known
+  attr_pairs_in : (it : Axiom) (k : ℕ × ℕ) → KnowsAxiom theory it → Contains (attr_pairs it) k → IsIn count k
+  attr_pairs_in (ConceptIn b d) k h m = absurd (nowhere k m)
+  attr_pairs_in (ConceptApart b d) k h m = absurd (nowhere k m)
+  attr_pairs_in (RoleIn q r) k h m = absurd (nowhere k m)
+  attr_pairs_in (RoleApart q r) k h m = absurd (nowhere k m)
+  attr_pairs_in (AttrIn u w) k h m = absurd (nowhere k m)
+  attr_pairs_in (AttrApart u w) k h m = one count u.0 w.0 k (attr_in u h.0) (attr_in w h.1) m
+  attr_pairs_in (Range u w) k h m = absurd (nowhere k m)
+  attr_pairs_in (FunctionalRole q) k h m = absurd (nowhere k m)
+  attr_pairs_in (FunctionalAttr u) k h m = absurd (nowhere k m)
+  attr_pairs_in (ConceptSome b q d) k h m = absurd (nowhere k m)
 
-  pub attr_edges_below : IsKnown theory → AreBelow nodes (all_pairs part.AttrEdges theory.axioms)
-  attr_edges_below known = below_by attr_edges attrs_below known
+  below_by : (n : ℕ) (f : Axiom → List (ℕ × ℕ)) → ((it : Axiom) (k : ℕ × ℕ) → KnowsAxiom theory it → Contains (f it) k → IsIn n k) → IsKnown theory → (k : ℕ × ℕ) → Contains (flat_map f theory.axioms) k → IsIn n k
+  below_by n f each known k m = let o = out_of_flat_map f theory.axioms k m in each o.0 k (All-contains (KnowsAxiom theory) theory.axioms o.0 known o.1) o.2
 
-  pub need_edges_below : IsKnown theory → AreBelow nodes (all_pairs part.NeedEdges theory.axioms)
-  need_edges_below known = below_by need_edges needs_below known
+  pub concept_edges_below : IsKnown theory → AreBelow nodes (all_edges part.ConceptEdges theory.axioms)
+  concept_edges_below known = below_by nodes concept_edges concepts_below known
 
-  -- who leads to something known is known, and so is who is torn
+  pub role_edges_below : IsKnown theory → AreBelow (2 * count) (all_edges part.RoleEdges theory.axioms)
+  role_edges_below known = below_by (2 * count) role_edges roles_below known
+
+  pub attr_edges_below : IsKnown theory → AreBelow count (all_edges part.AttrEdges theory.axioms)
+  attr_edges_below known = below_by count attr_edges attrs_below known
+
+  pub need_edges_below : IsKnown theory → AreBelow nodes (all_edges part.NeedEdges theory.axioms)
+  need_edges_below known = below_by nodes need_edges needs_below known
+
+  pub concept_pairs_below : IsKnown theory → AreBelow nodes (all_pairs disjoint.Concepts theory.axioms)
+  concept_pairs_below known = below_by nodes concept_pairs concept_pairs_in known
+
+  pub role_pairs_below : IsKnown theory → AreBelow (2 * count) (all_pairs disjoint.Roles theory.axioms)
+  role_pairs_below known = below_by (2 * count) role_pairs role_pairs_in known
+
+  pub attr_pairs_below : IsKnown theory → AreBelow count (all_pairs disjoint.Attrs theory.axioms)
+  attr_pairs_below known = below_by count attr_pairs attr_pairs_in known
+
+  -- who leads to something known is known, and so is who is contradictory
   module _ (known : IsKnown theory) where
     knows : (it : Axiom) → Contains theory.axioms it → KnowsAxiom theory it
     knows it m = All-contains (KnowsAxiom theory) theory.axioms it known m
@@ -170,9 +218,9 @@ module _ (theory : Theory) where
     attr_back u w (c.itself z) h = h
     attr_back u w (c.further z v y p m) h = attr_back u v p (knows (AttrIn v w) m).0
 
-    pub torn_known : (b : Basic) → Torn theory.axioms b → KnowsConcept theory b
-    torn_known b (e.concepts z d g m h i) = concept_back b d h (knows (ConceptApart d g) m).0
-    torn_known b (e.roles q r s m h i) = role_back q r h (knows (RoleApart r s) m).0
-    torn_known b (e.attrs u v w m h i) = attr_back u v h (knows (AttrApart v w) m).0
-    torn_known b (e.ranges u v w d g m n ne h i) = attr_back u v h (knows (Range v d) m)
-    torn_known b (e.fillers z f d g q m n h i) = (knows (ConceptSome b q f) m).0
+    pub contradictory_known : (b : Basic) → IsContradictory theory.axioms b → KnowsConcept theory b
+    contradictory_known b (e.concepts z d g m h i) = concept_back b d h (knows (ConceptApart d g) m).0
+    contradictory_known b (e.roles q r s m h i) = role_back q r h (knows (RoleApart r s) m).0
+    contradictory_known b (e.attrs u v w m h i) = attr_back u v h (knows (AttrApart v w) m).0
+    contradictory_known b (e.ranges u v w d g m n ne h i) = attr_back u v h (knows (Range v d) m)
+    contradictory_known b (e.fillers z f d g q m n h i) = (knows (ConceptSome b q f) m).0

@@ -1,34 +1,14 @@
-ghost use Rattle.std.specs.Prelude.{◌≡◌, ◌<◌, ◌≤◌, ◌↔◌, ℕ, IsTrue, IfOk, false, true, not, length, count_by};
-ghost use Rattle.tbox_closure.specs.Graphs.{Path, CarriesMark, IsMarked, AreBelow, MarksReached, IsClosed, AreReached, AreRows};
+ghost use Rattle.std.specs.Prelude.{◌≡◌, ◌<◌, ◌↔◌, ℕ, IsTrue, IfOk, OnOk, IfSome, false, length};
+ghost use Rattle.dl_laws.specs.Paths.{Path};
+ghost use Rattle.tbox_closure.specs.Marks.{IsMarked, row};
+ghost use Rattle.tbox_closure.specs.Graphs.{AreBelow, AreRows, AreFirst, AreAlike, AreAmong, AreBegun, AreSound, HaveSamePaths, IsGraphOf, Gathers};
 
+use crate::marks::Marks;
+use crate::rows::{are_marked, carry, close, first_rows, gather, is_marked};
+use crate::schedules::schedule;
 use dl_base::OutOfMemory;
 use std::alloc::Global;
 use std::marker::Model;
-
-/// A mark for each node.
-#[derive(Drop)]
-struct Marks {
-    bits: Vec<bool>,
-}
-
-impl Model for Marks {
-    ghost use Rattle.std.specs.Prelude.{List, Bool};
-
-    ghost Value = { List Bool };
-
-    ghost view = { λ m. m.bits.items };
-}
-
-impl Marks {
-    fn has(&self, node: usize) -> bool
-        ensures { IsTrue result ↔ IsMarked self.now node }
-    {
-        match self.bits.get(node) {
-            Some(bit) => *bit,
-            None => false,
-        }
-    }
-}
 
 /// Edges between nodes, with the nodes that each node reaches.
 #[derive(Drop)]
@@ -38,28 +18,39 @@ pub struct Table {
 }
 
 impl Model for Table {
-    ghost use Rattle.std.specs.Prelude.{List, ℕ};
-    ghost use Rattle.tbox_closure.specs.Graphs.{IsTable};
+    ghost use Rattle.std.specs.Prelude.{length};
+    ghost use Rattle.tbox_closure.specs.Graphs.{Graph, IsTable};
 
-    ghost Value = { List (ℕ × ℕ) };
+    ghost Value = { Graph };
 
-    ghost view = { λ t. t.edges.items };
+    ghost view = { λ t. record { edges = t.edges.items; nodes = length t.rows.items } };
 
     ghost invariant = { λ t. IsTable t.edges.items t.rows.items };
 }
 
 impl Table {
+    /// The table of a few of the edges, which lead as far as all.
     pub fn of(alloc: Global, edges: Vec<(usize, usize)>, nodes: usize) -> Result<Table, OutOfMemory>
         requires { AreBelow nodes edges.items }
-        ensures { IfOk result (λ table. table ≡ edges.items) }
+        ensures { IfOk result (IsGraphOf edges.items nodes) }
     {
-        let rows = rows_of(alloc, edges.as_slice(), nodes)?;
-        Ok(Table { edges, rows })
+        let mut rows = first_rows(alloc, nodes)?;
+        match fill(alloc, edges.as_slice(), rows.as_mut_slice())? {
+            Some(few) => Ok(Table { edges: few, rows }),
+            None => Ok(Table { edges, rows }),
+        }
+    }
+
+    pub fn nodes(&self) -> usize
+        ensures count { result ≡ self.now.nodes }
+        ensures range { AreBelow self.now.nodes self.now.edges }
+    {
+        self.rows.len()
     }
 
     /// Whether a path of edges leads from the one node to the other.
     pub fn reaches(&self, from: usize, to: usize) -> bool
-        ensures { IsTrue result ↔ Path self.now from to }
+        ensures { IsTrue result ↔ Path self.now.edges from to }
     {
         if from == to {
             true
@@ -69,87 +60,90 @@ impl Table {
             false
         }
     }
-}
 
-fn rows_of(alloc: Global, edges: &[(usize, usize)], nodes: usize) -> Result<Vec<Marks>, OutOfMemory>
-    requires { AreBelow nodes edges.now }
-    ensures length { IfOk result (λ rows. length rows.items ≡ nodes) }
-    ensures exact { IfOk result (λ rows. AreRows edges.now rows.items) }
-{
-    let mut rows = Vec::new(alloc);
-    for from in 0..nodes {
-        let bits = reached(alloc, edges, nodes, from)?;
-        rows.push(Marks { bits })?;
+    /// Adds to each row those of all nodes that its node reaches.
+    pub fn gather(&self, alloc: Global, rows: &mut [Marks])
+        requires nodes { length rows.old ≡ self.now.nodes }
+        requires alike { AreAlike rows.old }
+        ensures { (i k : ℕ) → IsMarked (row rows.new i) k ↔ Gathers self.now.edges rows.old i k }
+    {
+        gather(alloc, self.edges.as_slice(), rows);
     }
-    Ok(rows)
 }
 
-/// Marks the end of the edge if its beginning is marked. Answers whether the mark is new.
-fn carry(edge: (usize, usize), marks: &mut [bool]) -> bool
-    requires from { edge.0 < length marks.old }
-    requires to { edge.1 < length marks.old }
-    ensures same { result ≡ false → marks.new ≡ marks.old }
-    ensures closed { result ≡ false → IsMarked marks.new edge.0 → IsMarked marks.new edge.1 }
-    ensures marked { IsTrue result → CarriesMark edge marks.old marks.new }
-{
-    if marks[edge.0] && !marks[edge.1] {
-        marks[edge.1] = true;
-        return true;
-    }
-    false
-}
-
-/// Marks the end of each edge whose beginning is marked. Answers whether a mark was new.
-fn spread(edges: &[(usize, usize)], marks: &mut [bool]) -> bool
-    requires { AreBelow (length marks.old) edges.now }
-    ensures kept { (k : ℕ) → IsMarked marks.old k → IsMarked marks.new k }
-    ensures sound { (b : ℕ) → MarksReached edges.now b marks.old → MarksReached edges.now b marks.new }
-    ensures closed { result ≡ false → IsClosed edges.now marks.new }
-    ensures fewer { IsTrue result → count_by not marks.new < count_by not marks.old }
-    ensures no_more { count_by not marks.new ≤ count_by not marks.old }
-{
-    let mut changed = false;
-    for edge in edges {
-        if carry(*edge, marks) {
-            changed = true;
-        }
-    }
-    changed
-}
-
-/// Marks all that edges lead to from the marked nodes.
-fn close(edges: &[(usize, usize)], marks: &mut [bool])
-    requires { AreBelow (length marks.old) edges.now }
-    ensures kept { (k : ℕ) → IsMarked marks.old k → IsMarked marks.new k }
-    ensures sound { (b : ℕ) → MarksReached edges.now b marks.old → MarksReached edges.now b marks.new }
-    ensures closed { IsClosed edges.now marks.new }
-{
-    while spread(edges, marks) {}
-}
-
-/// A mark for each node, whether edges lead to it from the given one.
-fn reached(
+/// Marks in each row all that its node reaches. Answers a few of the edges where these lead as far as all.
+fn fill(
     alloc: Global,
     edges: &[(usize, usize)],
-    nodes: usize,
-    from: usize,
-) -> Result<Vec<bool>, OutOfMemory>
-    requires range { AreBelow nodes edges.now }
-    requires from { from < nodes }
-    ensures { IfOk result (λ marks. AreReached edges.now from marks.items) }
+    rows: &mut [Marks],
+) -> Result<Option<Vec<(usize, usize)>>, OutOfMemory>
+    requires range { AreBelow (length rows.old) edges.now }
+    requires first { AreFirst rows.old }
+    requires alike { AreAlike rows.old }
+    ensures all { OnOk result (AreRows edges.now rows.new) }
+    ensures few { IfOk result (λ answer. IfSome answer (λ few. AreRows few.items rows.new)) }
+    ensures same { IfOk result (λ answer. IfSome answer (λ few. HaveSamePaths few.items edges.now)) }
+    ensures among { IfOk result (λ answer. IfSome answer (λ few. AreAmong edges.now few.items)) }
 {
-    let mut marks = vec![in alloc; false; nodes]?;
-    mark_reached(edges, marks.as_mut_slice(), from);
-    Ok(marks)
+    let order = schedule(alloc, edges, rows.len())?;
+    let few = follow(alloc, edges, order.as_slice(), rows)?;
+    if complete(alloc, edges, few.as_slice(), rows) {
+        return Ok(Some(few));
+    }
+    Ok(None)
 }
 
-/// Marks all that edges lead to from the given node, where nothing is marked.
-fn mark_reached(edges: &[(usize, usize)], marks: &mut [bool], from: usize)
-    requires range { AreBelow (length marks.old) edges.now }
-    requires from { from < length marks.old }
-    requires unmarked { (k : ℕ) → ¬ IsMarked marks.old k }
-    ensures { AreReached edges.now from marks.new }
+/// Carries marks along the edges of the schedule, but where the end is marked already and the schedule allows to leave it out.
+/// Answers the edges that were used.
+fn follow(
+    alloc: Global,
+    edges: &[(usize, usize)],
+    schedule: &[(usize, bool)],
+    rows: &mut [Marks],
+) -> Result<Vec<(usize, usize)>, OutOfMemory>
+    requires range { AreBelow (length rows.old) edges.now }
+    requires first { AreFirst rows.old }
+    requires alike { AreAlike rows.old }
+    ensures among { IfOk result (λ few. AreAmong edges.now few.items) }
+    ensures begun { AreBegun rows.new }
+    ensures sound { IfOk result (λ few. AreSound few.items rows.new) }
+    ensures alike { AreAlike rows.new }
 {
-    marks[from] = true;
-    close(edges, marks);
+    let mut few = Vec::new(alloc);
+    for step in schedule {
+        let (place, always) = *step;
+        if place < edges.len() {
+            let edge = edges[place];
+            let wanted = always || !is_marked(edge, rows);
+            if wanted {
+                few.push(edge)?;
+                carry(alloc, rows, edge.0, edge.1);
+            }
+        }
+    }
+    Ok(few)
+}
+
+/// Marks in each row all that its node reaches, where a few of the edges have marked the most. Answers whether the few lead as far as all.
+fn complete(
+    alloc: Global,
+    edges: &[(usize, usize)],
+    few: &[(usize, usize)],
+    rows: &mut [Marks],
+) -> bool
+    requires range { AreBelow (length rows.old) edges.now }
+    requires among { AreAmong edges.now few.now }
+    requires begun { AreBegun rows.old }
+    requires sound { AreSound few.now rows.old }
+    requires alike { AreAlike rows.old }
+    ensures all { AreRows edges.now rows.new }
+    ensures few { IsTrue result → AreRows few.now rows.new }
+    ensures same { IsTrue result → HaveSamePaths few.now edges.now }
+{
+    close(alloc, few, rows);
+    if are_marked(edges, rows) {
+        return true;
+    }
+    close(alloc, edges, rows);
+    false
 }

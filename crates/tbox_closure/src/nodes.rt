@@ -1,5 +1,5 @@
 ghost use Rattle.std.specs.Prelude.{◌≡◌};
-ghost use Rattle.tbox_closure.specs.Edges as edge;
+ghost use Rattle.dl_laws.specs.Edges as edge;
 ghost use Rattle.dl_base.specs.Derivation as derivation;
 
 use dl_base::{Basic, RoleSide};

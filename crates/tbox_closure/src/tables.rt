@@ -1,32 +1,38 @@
-ghost use Rattle.std.specs.Prelude.{◌≡◌, ◌≢◌, ◌≤◌, ◌↔◌, ◌⊎◌, ℕ, IsTrue, IfOk, length, List, Contains};
-ghost use Rattle.dl_base.specs.declared.axioms.Axiom as axiom_type;
+ghost use Rattle.std.specs.Prelude.{◌≡◌, ◌≢◌, ◌↔◌, ℕ, IsTrue, IfOk, length, List};
 ghost use Rattle.dl_base.specs.Clash.{RoleReaches, AttrReaches};
-ghost use Rattle.dl_base.specs.Ontologies.{IsKnown, IsTerm};
-ghost use Rattle.dl_base.specs.declared.terms.Kind.TheVariants as kind;
+ghost use Rattle.dl_base.specs.Ontologies.{IsTerm};
 ghost use Rattle.dl_base.specs.Reach.{ConceptReaches};
-ghost use Rattle.dl_laws.specs.Emptiness.{Torn};
-ghost use Rattle.tbox_closure.specs.Edges as edge;
-ghost use Rattle.tbox_closure.specs.Graphs.{AreBelow};
-ghost use Rattle.tbox_closure.specs.Tables.{HasPair, Ends, HasOtherRange, HasTornRange, HasTornFiller, TearsByKind, ApartAbove};
+ghost use Rattle.dl_base.specs.Validity.{IsOntology};
+ghost use Rattle.dl_base.specs.declared.terms.Kind.TheVariants as kind;
+ghost use Rattle.dl_laws.specs.Meeting.{AreDisjointConcepts, AreDisjointRoles, AreDisjointAttrs};
+ghost use Rattle.tbox_closure.specs.Disjointness.{all_pairs, AreDisjointRows};
+ghost use Rattle.tbox_closure.specs.Edges.{all_edges};
+ghost use Rattle.tbox_closure.specs.Graphs.{AreBelow, IsGraphOf};
+ghost use Rattle.tbox_closure.specs.Tables.{AreRanges};
 
+use crate::disjointness::{Disjointness, disjoint_rows};
 use crate::edges::Part;
 use crate::gathering::gather;
 use crate::graphs::Table;
-use crate::nodes::{concept_number, role_number, turned};
+use crate::marks::Marks;
+use crate::nodes::{concept_number, role_number};
+use crate::ranges::ranges_of;
+use crate::rows::is_marked;
 use dl_base::{Axiom, Basic, Name, Ontology, OutOfMemory, Pattern, RoleSide, Term};
 use std::alloc::Global;
 use std::marker::Model;
 
-/// An ontology with what its inclusions reach and what it declares disjoint, by numbers.
+/// An ontology with what its inclusions reach, what is disjoint by them, and its ranges.
 #[derive(Drop)]
 pub struct Tables {
     ontology: Ontology,
     concepts: Table,
     roles: Table,
     attrs: Table,
-    concept_pairs: Vec<(usize, usize)>,
-    role_pairs: Vec<(usize, usize)>,
-    attr_pairs: Vec<(usize, usize)>,
+    disjoint_concepts: Vec<Marks>,
+    disjoint_roles: Vec<Marks>,
+    disjoint_attrs: Vec<Marks>,
+    ranges: Vec<(Term, Name)>,
 }
 
 impl Model for Tables {
@@ -37,45 +43,58 @@ impl Model for Tables {
 
     ghost view = { λ t. t.ontology };
 
-    ghost invariant = { λ t. IsExact t.ontology t.concepts t.roles t.attrs t.concept_pairs.items t.role_pairs.items t.attr_pairs.items };
+    ghost invariant = { λ t. IsExact t.ontology t.concepts.edges t.roles.edges t.attrs.edges t.disjoint_concepts.items t.disjoint_roles.items t.disjoint_attrs.items t.ranges.items };
 }
 
 impl Tables {
     pub fn of(alloc: Global, ontology: Ontology) -> Result<Tables, OutOfMemory>
-        requires known { IsKnown ontology }
-        requires small { length ontology.terms ≤ 4000 }
         ensures { IfOk result (λ tables. tables ≡ ontology) }
     {
-        let nodes = 4 * ontology.terms();
-        let concepts = table(alloc, Part::ConceptEdges, &ontology, nodes)?;
-        let roles = table(alloc, Part::RoleEdges, &ontology, nodes)?;
-        let attrs = table(alloc, Part::AttrEdges, &ontology, nodes)?;
-        let concept_pairs = gather(alloc, Part::ConceptPairs, ontology.axioms())?;
-        let role_pairs = gather(alloc, Part::RolePairs, ontology.axioms())?;
-        let attr_pairs = gather(alloc, Part::AttrPairs, ontology.axioms())?;
+        let terms = ontology.terms();
+        let concepts = table(alloc, Part::ConceptEdges, &ontology, 4 * terms)?;
+        let roles = table(alloc, Part::RoleEdges, &ontology, 2 * terms)?;
+        let attrs = table(alloc, Part::AttrEdges, &ontology, terms)?;
+        let disjoint_concepts = disjoint(alloc, Disjointness::Concepts, &ontology, &concepts)?;
+        let disjoint_roles = disjoint(alloc, Disjointness::Roles, &ontology, &roles)?;
+        let disjoint_attrs = disjoint(alloc, Disjointness::Attrs, &ontology, &attrs)?;
+        let ranges = ranges_of(alloc, ontology.axioms())?;
         Ok(Tables {
             ontology,
             concepts,
             roles,
             attrs,
-            concept_pairs,
-            role_pairs,
-            attr_pairs,
+            disjoint_concepts,
+            disjoint_roles,
+            disjoint_attrs,
+            ranges,
         })
     }
 
-    pub fn terms(&self) -> usize
-        ensures count { result ≡ length self.now.terms }
-        ensures small { result ≤ 4000 }
-        ensures known { IsKnown self.now }
+    pub fn ontology(&self) -> &Ontology
+        ensures { result.now ≡ self.now }
     {
-        self.ontology.terms()
+        &self.ontology
     }
 
     pub fn axioms(&self) -> &[Axiom]
         ensures { result.now ≡ self.now.axioms }
     {
         self.ontology.axioms()
+    }
+
+    /// The number of terms.
+    pub fn terms(&self) -> usize
+        ensures count { result ≡ length self.now.terms }
+        ensures sound { IsOntology self.now }
+    {
+        self.ontology.terms()
+    }
+
+    /// The declared ranges.
+    pub fn ranges(&self) -> &[(Term, Name)]
+        ensures { AreRanges self.now.axioms result.now }
+    {
+        self.ranges.as_slice()
     }
 
     /// Whether the term is a role.
@@ -85,7 +104,6 @@ impl Tables {
         self.ontology.knows_pattern(&Pattern::Role(term))
     }
 
-    /// Whether inclusions lead from the one concept to the other.
     pub fn concept(&self, from: Basic, to: Basic) -> bool
         ensures { IsTrue result ↔ ConceptReaches self.now.axioms from to }
     {
@@ -93,135 +111,43 @@ impl Tables {
             .reaches(concept_number(from), concept_number(to))
     }
 
-    /// Whether inclusions lead from the one role to the other.
     pub fn role(&self, from: RoleSide, to: RoleSide) -> bool
         ensures { IsTrue result ↔ RoleReaches self.now.axioms from to }
     {
         self.roles.reaches(role_number(from), role_number(to))
     }
 
-    /// Whether inclusions lead from the one attribute to the other.
     pub fn attr(&self, from: Term, to: Term) -> bool
         ensures { IsTrue result ↔ AttrReaches self.now.axioms from to }
     {
         self.attrs.reaches(from.0 as usize, to.0 as usize)
     }
 
-    /// Whether who is in the concept contradicts the axioms at once, or by its value, or at its witness.
-    pub fn tears(&self, concept: Basic) -> bool
-        ensures { IsTrue result ↔ Torn self.now.axioms concept }
+    pub fn disjoint_concepts(&self, one: Basic, other: Basic) -> bool
+        ensures { IsTrue result ↔ AreDisjointConcepts self.now.axioms one other }
     {
-        if self.is_torn_between(concept, concept) {
-            return true;
-        }
-        if self.tears_by_kind(concept) {
-            return true;
-        }
-        self.tears_filler(concept)
-    }
-
-    fn tears_by_kind(&self, concept: Basic) -> bool
-        ensures { IsTrue result ↔ TearsByKind self.now.axioms concept }
-    {
-        match concept {
-            Basic::Class(_) => false,
-            Basic::Exists(q) => {
-                has_pair(
-                    &self.roles,
-                    self.role_pairs.as_slice(),
-                    role_number(q),
-                    role_number(q),
-                )
-            }
-            Basic::Domain(u) => {
-                if has_pair(
-                    &self.attrs,
-                    self.attr_pairs.as_slice(),
-                    u.0 as usize,
-                    u.0 as usize,
-                ) {
-                    return true;
-                }
-                self.tears_range(u)
-            }
-        }
-    }
-
-    /// Whether two disjoint concepts are each above one of the two.
-    fn is_torn_between(&self, one: Basic, other: Basic) -> bool
-        ensures { IsTrue result ↔ ApartAbove self.now.axioms one other }
-    {
-        has_pair(
-            &self.concepts,
-            self.concept_pairs.as_slice(),
-            concept_number(one),
-            concept_number(other),
+        is_marked(
+            (concept_number(one), concept_number(other)),
+            self.disjoint_concepts.as_slice(),
         )
     }
 
-    fn tears_range(&self, attr: Term) -> bool
-        ensures { IsTrue result ↔ ((it : axiom_type.Axiom) × Contains self.now.axioms it × HasTornRange self.now.axioms attr it) }
+    pub fn disjoint_roles(&self, one: RoleSide, other: RoleSide) -> bool
+        ensures { IsTrue result ↔ AreDisjointRoles self.now.axioms one other }
     {
-        for it in self.axioms() {
-            if self.is_torn_range(attr, it) {
-                return true;
-            }
-        }
-        false
+        is_marked(
+            (role_number(one), role_number(other)),
+            self.disjoint_roles.as_slice(),
+        )
     }
 
-    fn is_torn_range(&self, attr: Term, it: &Axiom) -> bool
-        ensures { IsTrue result ↔ HasTornRange self.now.axioms attr it.now }
+    pub fn disjoint_attrs(&self, one: Term, other: Term) -> bool
+        ensures { IsTrue result ↔ AreDisjointAttrs self.now.axioms one other }
     {
-        match it {
-            Axiom::Range(v, d) => self.attr(attr, *v) && self.has_other_range(attr, d),
-            _ => false,
-        }
-    }
-
-    fn has_other_range(&self, attr: Term, datatype: &Name) -> bool
-        ensures { IsTrue result ↔ ((it : axiom_type.Axiom) × Contains self.now.axioms it × HasOtherRange self.now.axioms attr datatype.now it) }
-    {
-        for it in self.axioms() {
-            if self.is_other_range(attr, datatype, it) {
-                return true;
-            }
-        }
-        false
-    }
-
-    fn is_other_range(&self, attr: Term, datatype: &Name, it: &Axiom) -> bool
-        ensures { IsTrue result ↔ HasOtherRange self.now.axioms attr datatype.now it.now }
-    {
-        match it {
-            Axiom::Range(w, e) => !datatype.is(e) && self.attr(attr, *w),
-            _ => false,
-        }
-    }
-
-    fn tears_filler(&self, concept: Basic) -> bool
-        ensures { IsTrue result ↔ ((it : axiom_type.Axiom) × Contains self.now.axioms it × HasTornFiller self.now.axioms concept it) }
-    {
-        for it in self.axioms() {
-            if self.is_torn_filler(concept, it) {
-                return true;
-            }
-        }
-        false
-    }
-
-    fn is_torn_filler(&self, concept: Basic, it: &Axiom) -> bool
-        ensures { IsTrue result ↔ HasTornFiller self.now.axioms concept it.now }
-    {
-        match it {
-            Axiom::ConceptSome(b, q, c) => {
-                if *b != concept {
-                    return false;
-                }
-                self.is_torn_between(Basic::Exists(turned(*q)), *c)
-            }
-            _ => false,
-        }
+        is_marked(
+            (one.0 as usize, other.0 as usize),
+            self.disjoint_attrs.as_slice(),
+        )
     }
 }
 
@@ -232,26 +158,21 @@ pub fn table(
     ontology: &Ontology,
     nodes: usize,
 ) -> Result<Table, OutOfMemory>
-    requires { AreBelow nodes (edge.all_pairs part ontology.now.axioms) }
-    ensures { IfOk result (λ table. table ≡ edge.all_pairs part ontology.now.axioms) }
+    requires { AreBelow nodes (all_edges part ontology.now.axioms) }
+    ensures { IfOk result (IsGraphOf (all_edges part ontology.now.axioms) nodes) }
 {
     Table::of(alloc, gather(alloc, part, ontology.axioms())?, nodes)
 }
 
-/// Whether a pair is at the ends of paths from one of two nodes.
-fn has_pair(edges: &Table, pairs: &[(usize, usize)], one: usize, other: usize) -> bool
-    ensures { IsTrue result ↔ HasPair edges.now pairs.now one other }
+/// The rows of what is disjoint over the graph.
+fn disjoint(
+    alloc: Global,
+    kind: Disjointness,
+    ontology: &Ontology,
+    graph: &Table,
+) -> Result<Vec<Marks>, OutOfMemory>
+    requires { AreBelow graph.now.nodes (all_pairs kind ontology.now.axioms) }
+    ensures { IfOk result (λ rows. AreDisjointRows graph.now.edges (all_pairs kind ontology.now.axioms) rows.items) }
 {
-    for pair in pairs {
-        if ends(edges, one, other, pair.0) && ends(edges, one, other, pair.1) {
-            return true;
-        }
-    }
-    false
-}
-
-fn ends(edges: &Table, one: usize, other: usize, to: usize) -> bool
-    ensures { IsTrue result ↔ Ends edges.now one other to }
-{
-    edges.reaches(one, to) || edges.reaches(other, to)
+    disjoint_rows(alloc, kind, ontology.axioms(), graph)
 }

@@ -8,4 +8,4 @@ use Rattle.conflict_rules.proofs.conflicts.Conflicts.add_to.Goals as goal
 
 pub returns : goal.returns
 returns c = rw (c.in_ok-push.ensures.items, c.in_ok-copy.ensures)
-    (added_one (IsWhere c.args.self.now.axioms c.args.concept (basic.Exists (Inverse c.args.term)) (asked.RoleTo c.args.term c.args.name.now)) (asked.RoleTo c.args.term c.args.name.now) c.args.guards.now.items (refl, c.concepts_meet.ensures.0 c.if-not-concepts_meet.false) (λ p h. h.0))
+    (added_one (IsWhere c.args.self.now.axioms c.args.concept (basic.Exists (Inverse c.args.term)) (asked.RoleTo c.args.term c.args.name.now)) (asked.RoleTo c.args.term c.args.name.now) c.args.guards.now.items (refl, c.disjoint_concepts.ensures.0 c.if-not-disjoint_concepts.false) (λ p h. h.0))

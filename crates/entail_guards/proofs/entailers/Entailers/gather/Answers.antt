@@ -8,7 +8,7 @@ pub loop-number-preserved : goal.loop-number-preserved
 loop-number-preserved c = collects_gains (FollowsAt c.args.self.now.axioms c.args.given.now) c.loop-number.number c.loop-number.facts.items c.add_term.new.facts.items c.loop-number.invariant c.in_ok-add_term.ensures
 
 pub returns-clause-known : goal.returns-clause-known
-returns-clause-known c = c.terms-number-end.ensures.known
+returns-clause-known c = c.terms-number-end.ensures.sound.known
 
 pub returns-clause-found : goal.returns-clause-found
 returns-clause-found c = let all : c.loop-number.number ≡ length c.args.self.now.terms = omega (arith, c.terms-number-end.ensures.count) in subst (λ (n : _). Collects (FollowsAt c.args.self.now.axioms c.args.given.now) n c.loop-number.facts.items) all c.loop-number.invariant

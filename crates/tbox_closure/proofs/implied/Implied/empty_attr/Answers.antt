@@ -4,4 +4,4 @@ use Rattle.tbox_closure.proofs.implied.Implied.empty_attr.Goals as goal
 pub returns : goal.returns
 returns c =
     let law = empty_attr_is c.args.self.now.axioms c.args.attr in
-    (λ h. law.1 (c.is_torn.ensures.0 h), λ e. c.is_torn.ensures.1 (law.0 e))
+    (λ h. law.1 (c.is_unsatisfiable.ensures.0 h), λ e. c.is_unsatisfiable.ensures.1 (law.0 e))

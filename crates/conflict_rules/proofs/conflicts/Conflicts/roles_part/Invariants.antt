@@ -1,7 +1,0 @@
-use Rattle.std.proofs.Common.{take}
-use Rattle.conflict_rules.specs.Meeting.{PartsRoles}
-use Rattle.tbox_closure.proofs.LoopLaws.{None}
-use Rattle.conflict_rules.proofs.conflicts.Conflicts.roles_part.Given as goal
-
-abbrev pub invariant-loop-it : goal.invariant-loop-it
-invariant-loop-it l = None (PartsRoles l.self.axioms l.one l.other) (take l.it-index l.self.axioms)
