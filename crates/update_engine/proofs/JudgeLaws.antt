@@ -6,9 +6,10 @@ use Rattle.std.proofs.lemmas.Option.{slice_get_within}
 use Rattle.dl_base.specs.declared.axioms.Axiom.{Axiom}
 use Rattle.dl_base.specs.declared.statements.Fact.{Fact}
 use Rattle.dl_base.specs.Derivation.{InClosure}
-use Rattle.dl_base.specs.Clash.{HasClash}
+use Rattle.dl_base.specs.Clash.{HasClash, IsConsistent}
 use Rattle.dl_base.specs.IllFormed.{NamesPair, NamesEntails, ClashesAt, ClashAt, EntailsAt}
 use Rattle.update_engine.specs.Judging.{NoneAlone, NoPair, IsPartner, IsEntailed}
+use Rattle.update_engine.proofs.NameLaws.{none_alone_of, no_pair_of}
 
 pub at_place : {X : Type 0} (xs : List X) (i : ℕ) (x : X) → i < length xs → x ≡ get_or xs i x → slice_get xs i ≡ Some x
 at_place [] i x l e = absurd (omega (arith, l))
@@ -80,13 +81,13 @@ module _ (axioms : List Axiom) where
       to_fact : (i d : ℕ) (f : Fact) → slice_get inserts i ≡ Some f → EntailsAt axioms inserts deletes i d → EntailedAt f d
       to_fact i d f e h = (h.1, h.3, subst (λ z. InClosure axioms (z ∷ []) h.1) (same_at inserts i h.0 f h.2 e) h.4)
 
-      pub names_entails : (i d : ℕ) (f : Fact) → i < length inserts → f ≡ get_or inserts i f → NoneAlone axioms inserts → NoPair axioms inserts
+      pub names_entails : (i d : ℕ) (f : Fact) → i < length inserts → f ≡ get_or inserts i f → IsConsistent axioms inserts
           → ((k : ℕ) → k < i → (m : ℕ) → ¬ EntailsAt axioms inserts deletes k m) → IsEntailed axioms deletes f d → NamesEntails axioms inserts deletes i d
-      names_entails i d f l e alone pairs before p =
+      names_entails i d f l e consistent before p =
           let at = at_place inserts i f l e in
           record {
-            none_alone = alone;
-            no_pair = pairs;
+            none_alone = none_alone_of axioms inserts consistent;
+            no_pair = no_pair_of axioms inserts consistent;
             here = (f, p.here.0, at, p.here.1, p.here.2);
             least = λ k m w h. ⊎_elim (λ x. before k x m h) (λ x. p.least m x.1 (to_fact i m f at (subst (λ (z : ℕ). EntailsAt axioms inserts deletes z m) x.0 h))) w;
           }

@@ -25,7 +25,8 @@ use Rattle.dl_base.proofs.ClosureLaws.{derived_more, from_one}
 use Rattle.dl_base.proofs.MeetingLaws.{meets_back}
 use Rattle.tbox_closure.proofs.LoopLaws.{take_on}
 use Rattle.entail_guards.specs.Following.{term_number}
-use Rattle.decision_laws.proofs.Stepping.{step_updates, step_loses}
+use Rattle.dl_laws.proofs.Stepping.{step_updates, step_loses}
+use Rattle.update_engine.specs.declared.answers.Step.{Step}
 use Rattle.update_engine.specs.Stepping.{FoundAt, IsFound, FollowsFrom, IsStep}
 use Rattle.update_engine.proofs.JudgeLaws.{at_place, same_at}
 
@@ -165,27 +166,30 @@ module _ (axioms : List Axiom) (old inserts deletes : List Fact) (consistent : I
           h,
     )
 
-    pub step_is : (less come more : List Fact) → Picks (Meets axioms inserts deletes) entailed less
-        → AreSorted come → ((f : Fact) → Contains come f ↔ IsPut axioms old inserts deletes f)
-        → Picks (λ f. ¬ Contains old f) come more → IsStep axioms old inserts deletes gone come more less
-    step_is less come more picked order puts unheld = record {
-      removed = removes;
-      put = record { sorted = order; each = puts };
-      added = record {
-        sorted = picks_sorted (λ f. ¬ Contains old f) fact_cmp come more unheld order;
-        each = λ f. (
-          (λ m. let r = from_picks (λ z. ¬ Contains old z) come more f unheld m in (inr ((puts f).0 r.0), r.1)),
-          λ h. into_picks (λ z. ¬ Contains old z) come more f unheld ((puts f).1 (⊎_elim (λ k. absurd (h.1 k.0)) (λ k. k) h.0)) h.1,
-        );
-      };
-      after = λ new stored.
-          let update = step_updates axioms old inserts deletes new consistent well stored in
-          let loses = step_loses axioms old inserts deletes new consistent well stored in (
-            update.0,
-            update.1,
-            record {
-              sorted = picks_sorted (Meets axioms inserts deletes) fact_cmp entailed less picked sorted;
-              each = λ f. ((λ m. (loses f).1 ((less_is less picked f).0 m)), λ h. (less_is less picked f).1 ((loses f).0 h));
-            },
-          );
-    }
+    pub step_is : (step : Step) → step.removed.items ≡ gone → Picks (Meets axioms inserts deletes) entailed step.lost.items
+        → AreSorted step.put.items → ((f : Fact) → Contains step.put.items f ↔ IsPut axioms old inserts deletes f)
+        → Picks (λ f. ¬ Contains old f) step.put.items step.added.items → IsStep axioms old inserts deletes step
+    step_is step same picked order puts unheld =
+        let come = step.put.items in
+        let more = step.added.items in
+        let less = step.lost.items in
+        record {
+          well_formed = well;
+          removed = subst (Lists (IsRemoved axioms old inserts deletes)) (sym same) removes;
+          put = record { sorted = order; each = puts };
+          added = record {
+            sorted = picks_sorted (λ f. ¬ Contains old f) fact_cmp come more unheld order;
+            each = λ f. (
+              (λ m. let r = from_picks (λ z. ¬ Contains old z) come more f unheld m in (inr ((puts f).0 r.0), r.1)),
+              λ h. into_picks (λ z. ¬ Contains old z) come more f unheld ((puts f).1 (⊎_elim (λ k. absurd (h.1 k.0)) (λ k. k) h.0)) h.1,
+            );
+          };
+          lost = λ new stored.
+              let loses = step_loses axioms old inserts deletes new consistent well stored in
+              record {
+                sorted = picks_sorted (Meets axioms inserts deletes) fact_cmp entailed less picked sorted;
+                each = λ f. ((λ m. (loses f).1 ((less_is less picked f).0 m)), λ h. (less_is less picked f).1 ((loses f).0 h));
+              };
+          update = λ new stored. (step_updates axioms old inserts deletes new consistent well stored).0;
+          consistent = λ new stored. (step_updates axioms old inserts deletes new consistent well stored).1;
+        }

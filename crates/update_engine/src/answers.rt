@@ -5,7 +5,8 @@ use crate::judging::IllFormed;
 use dl_base::{Fact, OutOfMemory};
 use std::convert::From;
 
-/// What goes, what comes, what of that the set didn't have, and what is entailed no more.
+/// What a request changes, each list in the order of facts and without repeats: the facts of the set that go, those that come, of these
+/// the ones that the set didn't have, and those that are entailed no more.
 #[derive(Debug, Drop)]
 pub struct Step {
     pub removed: Vec<Fact>,
@@ -14,8 +15,8 @@ pub struct Step {
     pub lost: Vec<Fact>,
 }
 
-/// Why there is no step.
-#[derive(Debug)]
+/// Why there is no step: the request contradicts itself, or memory is wanting.
+#[derive(Debug, Clone, Copy, PartialEq, Eq)]
 pub enum StepRefusal {
     IllFormed(IllFormed),
     OutOfMemory,

@@ -1,31 +1,34 @@
-ghost use Rattle.std.specs.Prelude.{◌≡◌, ◌<◌, ℕ, None, OnOk, IfErr, IfSome, length, slice_get, Some, ◌∷◌, []};
+ghost use Rattle.std.specs.Prelude.{◌≡◌, ℕ, None, OnOk, IfErr, IfSome, slice_get, Some, ◌∷◌, []};
+ghost use Rattle.dl_base.specs.Clash.{IsConsistent};
 ghost use Rattle.dl_base.specs.Derivation.{InClosure};
-ghost use Rattle.dl_base.specs.IllFormed.{NamesAlone, NamesPair, NamesEntails, ClashAt};
+ghost use Rattle.dl_base.specs.IllFormed.{NamesEntails};
 ghost use Rattle.dl_base.specs.Updates.{IsWellFormed};
 ghost use Rattle.dl_base.specs.declared.statements.Fact as fact_type;
-ghost use Rattle.update_engine.specs.Judging.{IsNamed, NoneAlone, NoPair, NoEntails, IsPartner, IsEntailed};
+ghost use Rattle.update_engine.specs.Judging.{IsNamed, NoEntails, IsEntailed};
 
+use crate::clashes::{Clash, first_clash};
 use crate::rules::Rules;
 use dl_base::Fact;
 
-/// How a request contradicts itself: by an insertion alone, by two, or by an insertion that entails a deletion.
-#[derive(Debug, Clone, Copy)]
+/// How a request contradicts itself: by an insertion alone, by two, or by an insertion and the deletion that it entails.
+/// Places count from 0.
+#[derive(Debug, Clone, Copy, PartialEq, Eq)]
 pub enum IllFormed {
     Alone(usize),
     Pair(usize, usize),
     Entails(usize, usize),
 }
 
-/// Whether the request contradicts itself, and where first.
+/// Whether the request contradicts itself, and where first: the least insertion that clashes by itself, else the least two insertions
+/// that clash, else the least insertion with the least deletion that it entails. It takes no memory.
 pub fn judge(rules: &Rules, inserts: &[Fact], deletes: &[Fact]) -> Result<(), IllFormed>
-    ensures well { OnOk result (IsWellFormed rules.now.axioms inserts.now deletes.now) }
-    ensures named { IfErr result (IsNamed rules.now.axioms inserts.now deletes.now) }
+    ensures ok { OnOk result (IsWellFormed rules.now.axioms inserts.now deletes.now) }
+    ensures ill_formed { IfErr result (IsNamed rules.now.axioms inserts.now deletes.now) }
 {
-    if let Some(place) = first_alone(rules, inserts) {
-        return Err(IllFormed::Alone(place));
-    }
-    if let Some((place, other)) = first_pair(rules, inserts) {
-        return Err(IllFormed::Pair(place, other));
+    match first_clash(rules, inserts) {
+        Some(Clash::Alone(place)) => return Err(IllFormed::Alone(place)),
+        Some(Clash::Pair(place, other)) => return Err(IllFormed::Pair(place, other)),
+        None => {}
     }
     if let Some((place, deleted)) = first_entails(rules, inserts, deletes) {
         return Err(IllFormed::Entails(place, deleted));
@@ -33,52 +36,9 @@ pub fn judge(rules: &Rules, inserts: &[Fact], deletes: &[Fact]) -> Result<(), Il
     Ok(())
 }
 
-/// The first insertion that clashes by itself.
-fn first_alone(rules: &Rules, inserts: &[Fact]) -> Option<usize>
-    ensures some { IfSome result (NamesAlone rules.now.axioms inserts.now) }
-    ensures none { result ≡ None → NoneAlone rules.now.axioms inserts.now }
-{
-    for place in 0..inserts.len() {
-        if rules.alone(&inserts[place]) {
-            return Some(place);
-        }
-    }
-    None
-}
-
-/// The first two insertions that clash.
-fn first_pair(rules: &Rules, inserts: &[Fact]) -> Option<(usize, usize)>
-    requires { NoneAlone rules.now.axioms inserts.now }
-    ensures some { IfSome result (λ places. NamesPair rules.now.axioms inserts.now places.0 places.1) }
-    ensures none { result ≡ None → NoPair rules.now.axioms inserts.now }
-{
-    for place in 0..inserts.len() {
-        if let Some(other) = first_partner(rules, inserts, place) {
-            return Some((place, other));
-        }
-    }
-    None
-}
-
-/// The first later insertion that clashes with this one.
-fn first_partner(rules: &Rules, inserts: &[Fact], place: usize) -> Option<usize>
-    requires alone { NoneAlone rules.now.axioms inserts.now }
-    requires within { place < length inserts.now }
-    ensures some { IfSome result (IsPartner rules.now.axioms inserts.now place) }
-    ensures none { result ≡ None → (l : ℕ) → ¬ ClashAt rules.now.axioms inserts.now place l }
-{
-    for other in place + 1..inserts.len() {
-        if rules.pair(&inserts[place], &inserts[other]) {
-            return Some(other);
-        }
-    }
-    None
-}
-
 /// The first insertion that entails a deletion, with the first that it entails.
 fn first_entails(rules: &Rules, inserts: &[Fact], deletes: &[Fact]) -> Option<(usize, usize)>
-    requires alone { NoneAlone rules.now.axioms inserts.now }
-    requires pairs { NoPair rules.now.axioms inserts.now }
+    requires { IsConsistent rules.now.axioms inserts.now }
     ensures some { IfSome result (λ places. NamesEntails rules.now.axioms inserts.now deletes.now places.0 places.1) }
     ensures none { result ≡ None → NoEntails rules.now.axioms inserts.now deletes.now }
 {
@@ -101,4 +61,72 @@ fn first_entailed(rules: &Rules, given: &Fact, deletes: &[Fact]) -> Option<usize
         }
     }
     None
+}
+
+#[cfg(test)]
+mod tests {
+    use super::*;
+    use crate::university::{
+        BADGE, HEAD_OF, Line, MENTORS, PERSON, PROF, STAFF, STUDENT, facts, university,
+    };
+    use dl_base::OutOfMemory;
+    use std::alloc::Global;
+    use std::test::Fail;
+
+    #[test]
+    fn a_request_that_contradicts_itself_is_named(rt: HostRuntime) -> Result<(), Fail> {
+        let alloc = rt.alloc();
+        let rules = university(alloc)?;
+        let prof: &[Line] = &[(PROF, "ann", "")];
+        let person: &[Line] = &[(PERSON, "ann", "")];
+        let heads: &[Line] = &[(HEAD_OF, "ann", "d1"), (HEAD_OF, "ann", "d2")];
+        let others: &[Line] = &[(PERSON, "bob", ""), (STUDENT, "cid", ""), (PROF, "ann", "")];
+        let deleted: &[Line] = &[(PROF, "bob", ""), (STAFF, "ann", ""), (PERSON, "ann", "")];
+        assert_eq!(rt; name_of(alloc, &rules, person, prof)?, None);
+        assert_eq!(rt;
+            name_of(alloc, &rules, heads, &[])?,
+            Some(IllFormed::Pair(0, 1))
+        );
+        assert_eq!(rt;
+            name_of(alloc, &rules, prof, person)?,
+            Some(IllFormed::Entails(0, 0))
+        );
+        assert_eq!(rt;
+            name_of(alloc, &rules, prof, prof)?,
+            Some(IllFormed::Entails(0, 0))
+        );
+        assert_eq!(rt;
+            name_of(alloc, &rules, others, deleted)?,
+            Some(IllFormed::Entails(2, 1))
+        );
+        Ok(())
+    }
+
+    #[test]
+    fn an_insertion_that_clashes_by_itself_is_named(rt: HostRuntime) -> Result<(), Fail> {
+        let alloc = rt.alloc();
+        let rules = university(alloc)?;
+        let mentor: &[Line] = &[(MENTORS, "ann", "ann")];
+        let badge: &[Line] = &[(BADGE, "ann", "x")];
+        assert_eq!(rt;
+            name_of(alloc, &rules, mentor, &[])?,
+            Some(IllFormed::Alone(0))
+        );
+        assert_eq!(rt;
+            name_of(alloc, &rules, badge, &[])?,
+            Some(IllFormed::Alone(0))
+        );
+        Ok(())
+    }
+
+    fn name_of(
+        alloc: Global,
+        rules: &Rules,
+        inserts: &[Line],
+        deletes: &[Line],
+    ) -> Result<Option<IllFormed>, OutOfMemory> {
+        let inserts = facts(alloc, inserts)?;
+        let deletes = facts(alloc, deletes)?;
+        Ok(judge(rules, inserts.as_slice(), deletes.as_slice()).err())
+    }
 }

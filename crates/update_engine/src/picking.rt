@@ -129,15 +129,15 @@ pub fn followers(alloc: Global, rules: &Rules, removed: &[Fact]) -> Result<Vec<F
     Ok(facts)
 }
 
-/// The facts with copies of the insertions.
-pub fn with_inserts(
+/// The facts with copies of others.
+pub fn with_copies(
     alloc: Global,
-    inserts: &[Fact],
+    others: &[Fact],
     mut facts: Vec<Fact>,
 ) -> Result<Vec<Fact>, OutOfMemory>
-    ensures { IfOk result (λ put. (f : fact_type.Fact) → Contains put.items f ↔ (Contains facts.items f ⊎ Contains inserts.now f)) }
+    ensures { IfOk result (λ all. (f : fact_type.Fact) → Contains all.items f ↔ (Contains facts.items f ⊎ Contains others.now f)) }
 {
-    for fact in inserts {
+    for fact in others {
         facts.push(fact.copy(alloc)?)?;
     }
     Ok(facts)

@@ -7,7 +7,7 @@ ghost use Rattle.update_engine.specs.Stepping.{IsStep, IsRefusal};
 
 use crate::answers::{Step, StepRefusal};
 use crate::judging::judge;
-use crate::picking::{all_patterns, followers, found, meeting, staying, unheld, with_inserts};
+use crate::picking::{all_patterns, followers, found, meeting, staying, unheld, with_copies};
 use crate::rules::Rules;
 use dl_base::{Fact, FactSet, OutOfMemory, Steps, sorted_once};
 use std::alloc::Global;
@@ -24,15 +24,14 @@ pub fn step<S: FactSet, L: Ledger>(
 ) -> Result<Step, StepRefusal>
     requires consistent { IsConsistent rules.now.axioms (S.facts set.now) }
     requires known { (f : fact_type.Fact) → Contains (S.facts set.now) f → Knows rules.now f }
-    ensures well { IfOk result (λ s. IsWellFormed rules.now.axioms inserts.now deletes.now) }
-    ensures done { IfOk result (λ s. IsStep rules.now.axioms (S.facts set.now) inserts.now deletes.now s.removed.items s.put.items s.added.items s.lost.items) }
+    ensures ok { IfOk result (IsStep rules.now.axioms (S.facts set.now) inserts.now deletes.now) }
     ensures refused { IfErr result (IsRefusal rules.now.axioms inserts.now deletes.now) }
 {
     if let Err(refusal) = judge(rules, inserts, deletes) {
         return Err(StepRefusal::IllFormed(refusal));
     }
-    let made = take_step(alloc, rules, set, inserts, deletes, steps)?;
-    Ok(made)
+    let step = take_step(alloc, rules, set, inserts, deletes, steps)?;
+    Ok(step)
 }
 
 /// The step of a well-formed request.
@@ -47,7 +46,7 @@ fn take_step<S: FactSet, L: Ledger>(
     requires well { IsWellFormed rules.now.axioms inserts.now deletes.now }
     requires consistent { IsConsistent rules.now.axioms (S.facts set.now) }
     requires known { (f : fact_type.Fact) → Contains (S.facts set.now) f → Knows rules.now f }
-    ensures { IfOk result (λ s. IsStep rules.now.axioms (S.facts set.now) inserts.now deletes.now s.removed.items s.put.items s.added.items s.lost.items) }
+    ensures { IfOk result (IsStep rules.now.axioms (S.facts set.now) inserts.now deletes.now) }
 {
     let patterns = all_patterns(alloc, rules)?;
     let held = found(alloc, patterns.as_slice(), set, steps)?;
@@ -55,7 +54,7 @@ fn take_step<S: FactSet, L: Ledger>(
     let entailed = sorted_once(followers(alloc, rules, removed.as_slice())?)?;
     let lost = meeting(alloc, rules, inserts, deletes, entailed.as_slice())?;
     let survivors = staying(alloc, rules, inserts, deletes, entailed.as_slice())?;
-    let put = sorted_once(with_inserts(alloc, inserts, survivors)?)?;
+    let put = sorted_once(with_copies(alloc, inserts, survivors)?)?;
     let added = unheld(alloc, set, put.as_slice(), steps)?;
     Ok(Step {
         removed,

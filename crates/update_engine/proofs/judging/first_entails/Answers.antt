@@ -5,7 +5,7 @@ use Rattle.update_engine.proofs.judging.first_entails.Goals as goal
 pub returns-in-Some-clause-some : goal.returns-in-Some-clause-some
 returns-in-Some-clause-some c =
     let within : c.loop-place.place < length c.args.inserts.now = omega arith in
-    names_entails c.args.rules.now.axioms c.args.deletes.now c.args.inserts.now c.loop-place.place c.in-Some.deleted c.index-inserts-place.result within c.index-inserts-place.is c.requires.alone c.requires.pairs c.loop-place.invariant c.in-Some.ensures.some
+    names_entails c.args.rules.now.axioms c.args.deletes.now c.args.inserts.now c.loop-place.place c.in-Some.deleted c.index-inserts-place.result within c.index-inserts-place.is c.requires c.loop-place.invariant c.in-Some.ensures.some
 
 pub loop-place-preserved : goal.loop-place-preserved
 loop-place-preserved c =

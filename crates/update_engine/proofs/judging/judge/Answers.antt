@@ -1,15 +1,14 @@
 use Rattle.std.proofs.Common.{refl}
 use Rattle.dl_base.proofs.NamingLaws.{unnamed_well}
+use Rattle.update_engine.proofs.NameLaws.{none_alone_of, no_pair_of}
 use Rattle.update_engine.proofs.judging.judge.Goals as goal
 
-pub first_pair-requires : goal.first_pair-requires
-first_pair-requires c = c.in_default.ensures.none refl
+pub first_entails-requires : goal.first_entails-requires
+first_entails-requires c = c.in-None.ensures.consistent
 
-pub first_entails-requires-clause-alone : goal.first_entails-requires-clause-alone
-first_entails-requires-clause-alone c = c.in_default.ensures.none refl
-
-pub first_entails-requires-clause-pairs : goal.first_entails-requires-clause-pairs
-first_entails-requires-clause-pairs c = c.in_default-first_pair.ensures.none refl
-
-pub returns-clause-well : goal.returns-clause-well
-returns-clause-well c = unnamed_well c.args.rules.now.axioms c.args.inserts.now c.args.deletes.now (c.in_default.ensures.none refl) (c.in_default-first_pair.ensures.none refl) (c.in_default-first_entails.ensures.none refl)
+pub returns-clause-ok : goal.returns-clause-ok
+returns-clause-ok c =
+    let axioms = c.args.rules.now.axioms in
+    let inserts = c.args.inserts.now in
+    let consistent = c.in-None.ensures.consistent in
+    unnamed_well axioms inserts c.args.deletes.now (none_alone_of axioms inserts consistent) (no_pair_of axioms inserts consistent) (c.in_default.ensures.none refl)

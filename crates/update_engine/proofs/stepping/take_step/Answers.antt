@@ -1,4 +1,4 @@
-use Rattle.std.proofs.Common.{◌⊎◌, length, List, [], ◌∷◌, subst}
+use Rattle.std.proofs.Common.{◌⊎◌, length, List, [], ◌∷◌, refl, subst}
 use Rattle.std.specs.Prelude.{Contains}
 use Rattle.dl_base.specs.declared.statements.Fact.{Fact}
 use Rattle.dl_base.specs.Derivation.{InClosure}
@@ -81,13 +81,13 @@ returns g c =
     (follow_all axioms gone raw (subst (λ (fs : List Fact). Collects (FollowsFrom axioms fs) (length fs) raw) c.as_slice-3.ensures.value c.in_ok-followers.ensures)) in
     let less = c.in_ok-lost.lost.items in
     let kept = c.in_ok-survivors.survivors.items in
-    let joined = c.in_ok-with_inserts.field-0.items in
+    let joined = c.in_ok-with_copies.field-0.items in
     let come = c.in_ok-put.put.items in
     let more = c.in_ok-added.added.items in
-    let joins = through (λ f. Contains kept f ⊎ Contains inserts f) joined come c.in_ok-put.ensures.same c.in_ok-with_inserts.ensures in
+    let joins = through (λ f. Contains kept f ⊎ Contains inserts f) joined come c.in_ok-put.ensures.same c.in_ok-with_copies.ensures in
     let puts = come_is axioms old inserts deletes c.requires.consistent c.requires.well gone entailed removes c.in_ok-entailed.ensures.sorted follows kept come
     (subst (λ (fs : List Fact). Picks (λ f. ¬ Meets axioms inserts deletes f) fs kept) c.as_slice-5.ensures.value c.in_ok-survivors.ensures) joins in
-    step_is axioms old inserts deletes c.requires.consistent c.requires.well gone entailed removes c.in_ok-entailed.ensures.sorted follows less come more
+    step_is axioms old inserts deletes c.requires.consistent c.requires.well gone entailed removes c.in_ok-entailed.ensures.sorted follows _ refl
     (subst (λ (fs : List Fact). Picks (Meets axioms inserts deletes) fs less) c.as_slice-4.ensures.value c.in_ok-lost.ensures)
     c.in_ok-put.ensures.sorted puts
     (subst (λ (fs : List Fact). Picks (λ f. ¬ Contains old f) fs more) c.as_slice-6.ensures.value c.in_ok-added.ensures.picked)

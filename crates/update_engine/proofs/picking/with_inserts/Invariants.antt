@@ -1,6 +1,0 @@
-use Rattle.std.proofs.Common.{take}
-use Rattle.update_engine.proofs.StepLaws.{Joins}
-use Rattle.update_engine.proofs.picking.with_inserts.Given as goal
-
-abbrev pub invariant-loop-fact : goal.invariant-loop-fact
-invariant-loop-fact l = Joins l.initial.facts.items (take l.fact-index l.inserts) l.facts.items
