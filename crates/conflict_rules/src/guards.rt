@@ -148,35 +148,51 @@ mod tests {
     fn alone(rt: HostRuntime) -> Result<(), Fail> {
         let alloc = rt.alloc();
         let school = compiled(alloc, Axiom::FunctionalRole(RoleSide::Inverse(HEAD_OF)))?;
-        assert!(rt; !school.alone(&is_in(alloc, STUDENT, b"ann")?));
-        assert!(rt; school.alone(&stand_in(alloc, MENTORS, b"ann", b"ann")?));
-        assert!(rt; !school.alone(&stand_in(alloc, MENTORS, b"ann", b"bob")?));
+        let facts = vec![in alloc;
+            (is_in(alloc, STUDENT, b"ann")?, false),
+            (stand_in(alloc, MENTORS, b"ann", b"ann")?, true),
+            (stand_in(alloc, MENTORS, b"ann", b"bob")?, false),
+            (has_badge(alloc, b"ann", b"string", b"7")?, true),
+            (has_badge(alloc, b"ann", b"integer", b"7")?, false),
+        ]?;
+        for (place, case) in facts.iter().enumerate() {
+            assert_eq!(rt; school.alone(&case.0), case.1, "fact {place}");
+        }
+        Ok(())
+    }
+
+    #[test]
+    fn two_ranges_of_one_attribute(rt: HostRuntime) -> Result<(), Fail> {
+        let alloc = rt.alloc();
+        let school = compiled(alloc, Axiom::Range(BADGE, Name::of(alloc, b"string")?))?;
         assert!(rt; school.alone(&has_badge(alloc, b"ann", b"string", b"7")?));
-        assert!(rt; !school.alone(&has_badge(alloc, b"ann", b"integer", b"7")?));
-        let ranges = compiled(alloc, Axiom::Range(BADGE, Name::of(alloc, b"string")?))?;
-        assert!(rt; ranges.alone(&has_badge(alloc, b"ann", b"string", b"7")?));
-        // Who teaches is a professor, what is taught is a course, and nothing is both a course and a person.
+        Ok(())
+    }
+
+    // Who teaches is a professor, what is taught is a course, and nothing is both a course and a person.
+    #[test]
+    fn both_ends_of_a_role(rt: HostRuntime) -> Result<(), Fail> {
+        let alloc = rt.alloc();
         let apart = Axiom::ConceptApart(Basic::Class(PERSON), Basic::Class(COURSE));
-        let courses = compiled(alloc, apart)?;
-        assert!(rt; courses.alone(&stand_in(alloc, TEACHES, b"ann", b"ann")?));
-        assert!(rt; !courses.alone(&stand_in(alloc, TEACHES, b"ann", b"cs1")?));
-        // Each professor teaches a student, so each course taught would be both.
+        let school = compiled(alloc, apart)?;
+        assert!(rt; school.alone(&stand_in(alloc, TEACHES, b"ann", b"ann")?));
+        assert!(rt; !school.alone(&stand_in(alloc, TEACHES, b"ann", b"cs1")?));
+        Ok(())
+    }
+
+    // Each course would be taught by a student, who is a professor as who teaches.
+    #[test]
+    fn a_chosen_partner(rt: HostRuntime) -> Result<(), Fail> {
+        let alloc = rt.alloc();
         let some = Axiom::ConceptSome(
-            Basic::Class(PROF),
-            RoleSide::Direct(TEACHES),
-            Basic::Class(STAFF),
-        );
-        let chosen = compiled(alloc, some)?;
-        assert!(rt; !chosen.alone(&is_in(alloc, PROF, b"ann")?));
-        let empty = Axiom::ConceptSome(
             Basic::Class(COURSE),
             RoleSide::Inverse(TEACHES),
             Basic::Class(STUDENT),
         );
-        let witness = compiled(alloc, empty)?;
-        assert!(rt; witness.alone(&is_in(alloc, COURSE, b"cs1")?));
-        assert!(rt; witness.alone(&stand_in(alloc, TEACHES, b"ann", b"cs1")?));
-        assert!(rt; !witness.alone(&is_in(alloc, STUDENT, b"ann")?));
+        let school = compiled(alloc, some)?;
+        assert!(rt; school.alone(&is_in(alloc, COURSE, b"cs1")?));
+        assert!(rt; school.alone(&stand_in(alloc, TEACHES, b"ann", b"cs1")?));
+        assert!(rt; !school.alone(&is_in(alloc, STUDENT, b"ann")?));
         Ok(())
     }
 
