@@ -1,0 +1,4 @@
+pub mod AnsweringLaws
+pub mod TellingLaws
+pub mod UpdateLaws
+pub mod WordLaws

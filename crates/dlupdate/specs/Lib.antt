@@ -1,0 +1,5 @@
+pub mod Applying
+pub mod FirstUpdates
+pub mod Offline
+pub mod Telling
+pub mod Texts
