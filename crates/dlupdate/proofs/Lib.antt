@@ -1,4 +1,0 @@
-pub mod AnsweringLaws
-pub mod TellingLaws
-pub mod UpdateLaws
-pub mod WordLaws
