@@ -7,5 +7,5 @@ mod reading;
 mod terms;
 
 pub use lines::one_name;
-pub use plain_names::{is_plain_name, name_before};
+pub use plain_names::{after, is_plain_name, name_before};
 pub use reading::{ReadOntology, read_ontology};
