@@ -56,7 +56,9 @@ fn gather(alloc: Global, bytes: &[u8]) -> Result<Option<Asked<'_>>, OutOfMemory>
 fn made(alloc: Global, asked: &Asked<'_>, ontology: &Ontology) -> Result<Change, FirstRefusal>
     ensures { Makes ontology.now (held asked.now) (seen result) }
 {
-    if asked.inserts.len() > MOST_TRIPLES || asked.deletes.len() > MOST_TRIPLES - asked.inserts.len() {
+    if asked.inserts.len() > MOST_TRIPLES
+        || asked.deletes.len() > MOST_TRIPLES - asked.inserts.len()
+    {
         return Err(FirstRefusal::NotBuiltYet);
     }
     let Some(inserts) = facts_of(alloc, ontology, asked.inserts.as_slice())? else {

@@ -12,5 +12,5 @@ returns-in_default c = not_facts c.args.ontology.now c.args.triples.now c.loop-t
 pub loop-triple-preserved : goal.loop-triple-preserved
 loop-triple-preserved c =
     let made = next_fact c.args.ontology.now c.args.triples.now c.loop-triple.triple-index _ c.loop-triple-test.true c.loop-triple.facts.items (fact.Class c.in-Some.class c.in_ok-of.field-0) c.in-Some.class c.loop-triple.invariant c.in-Some.ensures
-        (ap (fact.Class c.in-Some.class) c.in_ok-of.ensures.value) in
+    (ap (fact.Class c.in-Some.class) c.in_ok-of.ensures.value) in
     subst (λ (fs : List Fact). AreFacts c.args.ontology.now (map names (take (c.loop-triple.triple-index + 1) c.args.triples.now)) fs) (sym c.in_ok-push.ensures.items) made

@@ -22,7 +22,6 @@ returns-in_default-name_before c =
     let found = c.in-Some-one_name.ensures in
     no_member_here c.args.mode c.args.text.now c.requires (λ rest e. c.in_default.ensures rest e)
     (λ a d rest h k e.
-        let one = one_one (codes " <") (codes " a <") c.in-Some-one_name.individual.now a c.in-Some-one_name.named.now (d ++ 62 ∷ rest) found.0 h
-            (sym found.1 ∙ same_rest (separator c.args.mode) c.in-Some-after.behind.now (codes " <" ++ after_one a (codes " a <") (d ++ 62 ∷ rest)) (sym cut ∙ e)) in
-        c.in_default-name_before.ensures d rest (k, one.1))
-
+    let one = one_one (codes " <") (codes " a <") c.in-Some-one_name.individual.now a c.in-Some-one_name.named.now (d ++ 62 ∷ rest) found.0 h
+    (sym found.1 ∙ same_rest (separator c.args.mode) c.in-Some-after.behind.now (codes " <" ++ after_one a (codes " a <") (d ++ 62 ∷ rest)) (sym cut ∙ e)) in
+    c.in_default-name_before.ensures d rest (k, one.1))

@@ -1,0 +1,3 @@
+pub mod AnsweringLaws
+pub mod TellingLaws
+pub mod WordLaws

@@ -1,0 +1,4 @@
+pub mod Applying
+pub mod Offline
+pub mod Telling
+pub mod Texts
