@@ -3,6 +3,8 @@
 
 mod applying;
 mod offline;
+#[cfg(test)]
+mod tests;
 mod texts;
 mod words;
 
