@@ -38,7 +38,7 @@ fn remaining(alloc: Global, facts: &[Fact], removed: &[Fact]) -> Result<Vec<Fact
 }
 
 /// Whether the fact is among sorted facts.
-fn is_in_order(facts: &[Fact], fact: &Fact) -> bool
+pub fn is_in_order(facts: &[Fact], fact: &Fact) -> bool
     requires { AreSorted facts.now }
     ensures { IsTrue result ↔ Contains facts.now fact.now }
 {

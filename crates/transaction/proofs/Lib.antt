@@ -1,0 +1,4 @@
+pub mod EntryLaws
+pub mod MarkLaws
+pub mod PlanLaws
+pub mod WorldLaws

@@ -1,0 +1,10 @@
+//! The pure core: editors begin transactions, change facts and commit, and what is committed is one serial history.
+#![tactic(auto)]
+
+mod changes;
+mod entries;
+mod events;
+mod worlds;
+
+pub use events::{Event, Reply};
+pub use worlds::World;
