@@ -74,3 +74,44 @@ fn find<'f>(files: &'f [(String, Vec<u8>)], name: &str) -> Option<&'f [u8]>
     }
     None
 }
+
+#[cfg(test)]
+mod tests {
+    use super::*;
+    use std::test::Fail;
+
+    fn files(alloc: Global, failing: &[u64]) -> Result<MemoryFiles, Fail> {
+        let mut files = Vec::new(alloc);
+        for (name, text) in [("a", "12345"), ("b", ""), ("a", "other")] {
+            let name = String::from_str(alloc, name)?;
+            files.push((name, Vec::from_slice(alloc, text.as_bytes())?))?;
+        }
+        Ok(MemoryFiles::new(files, Vec::from_slice(alloc, failing)?))
+    }
+
+    // The third read fails, and the fourth reads the same file.
+    #[test]
+    fn files_in_memory_are_read(rt: HostRuntime) -> Result<(), Fail> {
+        let alloc = rt.alloc();
+        let mut files = files(alloc, &[2])?;
+        for (place, (name, limit, want)) in [
+            ("a", 5, Ok("12345")),
+            ("a", 4, Err(FilesRefusal::TooLong)),
+            ("a", 5, Err(FilesRefusal::Failed)),
+            ("a", 6, Ok("12345")),
+            ("b", 0, Ok("")),
+            ("c", 9, Err(FilesRefusal::Missing)),
+        ]
+        .into_iter()
+        .enumerate()
+        {
+            let told = match (files.read(alloc, name, limit), want) {
+                (Ok(bytes), Ok(text)) => bytes.as_slice() == text.as_bytes(),
+                (Err(refusal), Err(other)) => refusal == other,
+                _ => false,
+            };
+            assert!(rt; told, "read {place}");
+        }
+        Ok(())
+    }
+}

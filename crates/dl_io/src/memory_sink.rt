@@ -68,3 +68,31 @@ impl Sink for MemorySink {
         Put::Failed
     }
 }
+
+#[cfg(test)]
+mod tests {
+    use super::*;
+    use std::test::Fail;
+
+    // The second write fails, and later ones fill the sink.
+    #[test]
+    fn a_sink_in_memory_fills_up(rt: HostRuntime) -> Result<(), Fail> {
+        let alloc = rt.alloc();
+        let mut sink = MemorySink::new(alloc, 5, Vec::from_slice(alloc, &[1])?)?;
+        for (place, (piece, want)) in [
+            ("abc", Put::Took(3)),
+            ("d", Put::Failed),
+            ("", Put::Took(0)),
+            ("efg", Put::Took(2)),
+            ("g", Put::Failed),
+            ("", Put::Took(0)),
+        ]
+        .into_iter()
+        .enumerate()
+        {
+            assert_eq!(rt; sink.write(piece.as_bytes()), want, "write {place}");
+        }
+        assert_eq!(rt; sink.bytes(), b"abcef".as_slice());
+        Ok(())
+    }
+}

@@ -44,3 +44,53 @@ pub fn write_all<K: Sink>(sink: &mut K, bytes: &[u8]) -> Result<(), WriteFault>
     }
     Ok(())
 }
+
+#[cfg(test)]
+mod tests {
+    use super::*;
+    use crate::memory_sink::MemorySink;
+    use std::alloc::Global;
+    use std::test::Fail;
+
+    /// Takes one byte a call.
+    #[derive(Drop)]
+    struct Dripping {
+        inner: MemorySink,
+    }
+
+    impl Sink for Dripping {
+        ghost use Rattle.std.specs.Prelude.{Some};
+
+        ghost written = { λ s. Some s.inner.written };
+
+        ghost faults = { λ s. s.inner.faults };
+
+        fn write(&mut self, piece: &[u8]) -> Put {
+            self.inner.write(&piece[..piece.len().min(1)])
+        }
+    }
+
+    fn byte_by_byte(alloc: Global, capacity: usize, failing: &[u64]) -> Result<Dripping, Fail> {
+        let inner = MemorySink::new(alloc, capacity, Vec::from_slice(alloc, failing)?)?;
+        Ok(Dripping { inner })
+    }
+
+    // A sink that holds it all, one that fills up, and one whose third write fails.
+    #[test]
+    fn all_is_written_byte_by_byte_or_a_front(rt: HostRuntime) -> Result<(), Fail> {
+        let alloc = rt.alloc();
+        for (place, (capacity, failing, want, held)) in [
+            (9, [9], Ok(()), "abcdef"),
+            (4, [9], Err(WriteFault), "abcd"),
+            (9, [2], Err(WriteFault), "ab"),
+        ]
+        .into_iter()
+        .enumerate()
+        {
+            let mut sink = byte_by_byte(alloc, capacity, &failing)?;
+            assert_eq!(rt; write_all(&mut sink, b"abcdef"), want, "sink {place}");
+            assert_eq!(rt; sink.inner.bytes(), held.as_bytes(), "sink {place}");
+        }
+        Ok(())
+    }
+}

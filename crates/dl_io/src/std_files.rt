@@ -80,3 +80,83 @@ fn read_within<R: Read>(
     }
     Err(FilesRefusal::Failed)
 }
+
+#[cfg(test)]
+mod tests {
+    use super::*;
+    use crate::sinks::write_all;
+    use crate::std_sink::StdSink;
+    use std::io;
+    use std::test::Fail;
+
+    /// Gives its pieces in turn: `None` is interrupted, and an empty one is a fault.
+    #[derive(Drop)]
+    struct Giving<'a> {
+        pieces: &'a [Option<&'a [u8]>],
+        at: usize,
+    }
+
+    impl<'a> Read for Giving<'a> {
+        fn read(&mut self, buffer: &mut [u8]) -> io::Result<usize> {
+            let Some(given) = self.pieces.get(self.at) else {
+                return Ok(0);
+            };
+            self.at = self.at.saturating_add(1);
+            match given {
+                None => Err(io::Error::from(ErrorKind::Interrupted)),
+                Some([]) => Err(io::Error::from(ErrorKind::BrokenPipe)),
+                Some(piece) => {
+                    let count = piece.len().min(buffer.len());
+                    buffer[..count].copy_from_slice(&piece[..count]);
+                    Ok(count)
+                }
+            }
+        }
+    }
+
+    #[test]
+    fn a_reader_is_read_to_its_end_or_its_fault(rt: HostRuntime) -> Result<(), Fail> {
+        let alloc = rt.alloc();
+        let whole: &[Option<&[u8]>] = &[Some(b"ab"), None, Some(b"c")];
+        let faulty: &[Option<&[u8]>] = &[Some(b"ab"), Some(b""), Some(b"c")];
+        for (place, (pieces, limit, want)) in [
+            (whole, 3, Ok("abc")),
+            (whole, 2, Err(FilesRefusal::TooLong)),
+            (faulty, 9, Err(FilesRefusal::Failed)),
+        ]
+        .into_iter()
+        .enumerate()
+        {
+            let told = match (
+                read_within(alloc, &mut Giving { pieces, at: 0 }, limit),
+                want,
+            ) {
+                (Ok(bytes), Ok(text)) => bytes.as_slice() == text.as_bytes(),
+                (Err(refusal), Err(other)) => refusal == other,
+                _ => false,
+            };
+            assert!(rt; told, "reader {place}");
+        }
+        Ok(())
+    }
+
+    // What was written to a file is read from it.
+    #[test]
+    fn files_of_the_system_are_written_and_read(rt: HostRuntime) -> Result<(), Fail> {
+        let alloc = rt.alloc();
+        let name = "dl_io_test_file";
+        let mut sink = StdSink::new(fs::create(&rt, name)?);
+        assert_eq!(rt; write_all(&mut sink, b"a few bytes"), Ok(()));
+        let mut files = StdFiles::new(&rt);
+        let short = files.read(alloc, name, 10).err();
+        let whole = files.read(alloc, name, 11);
+        fs::remove_file(&rt, name)?;
+        assert_eq!(rt; short, Some(FilesRefusal::TooLong));
+        assert_eq!(rt; whole?.as_slice(), b"a few bytes".as_slice());
+        assert_eq!(rt;
+            files.read(alloc, name, 11).err(),
+            Some(FilesRefusal::Missing)
+        );
+        Ok(())
+    }
+}

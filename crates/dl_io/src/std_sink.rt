@@ -34,3 +34,45 @@ impl<W: Write> Sink for StdSink<W> {
         }
     }
 }
+
+#[cfg(test)]
+mod tests {
+    use super::*;
+    use std::io;
+
+    /// Takes at most so many bytes a call; `None` fails.
+    #[derive(Drop)]
+    struct Taking {
+        most: Option<usize>,
+    }
+
+    impl Write for Taking {
+        fn write(&mut self, piece: &[u8]) -> io::Result<usize> {
+            match self.most {
+                Some(most) => Ok(piece.len().min(most)),
+                None => Err(io::Error::from(io::ErrorKind::BrokenPipe)),
+            }
+        }
+
+        fn flush(&mut self) -> io::Result<()> {
+            Ok(())
+        }
+    }
+
+    #[test]
+    fn a_writer_that_takes_nothing_has_failed(rt: HostRuntime) {
+        for (place, (most, piece, want)) in [
+            (Some(2), "abc", Put::Took(2)),
+            (Some(0), "abc", Put::Failed),
+            (Some(0), "", Put::Took(0)),
+            (None, "abc", Put::Failed),
+            (None, "", Put::Failed),
+        ]
+        .into_iter()
+        .enumerate()
+        {
+            let mut sink = StdSink::new(Taking { most });
+            assert_eq!(rt; sink.write(piece.as_bytes()), want, "write {place}");
+        }
+    }
+}

@@ -67,7 +67,8 @@ fn first_entailed(rules: &Rules, given: &Fact, deletes: &[Fact]) -> Option<usize
 mod tests {
     use super::*;
     use crate::university::{
-        BADGE, HEAD_OF, Line, MENTORS, PERSON, PROF, STAFF, STUDENT, facts, university,
+        BADGE, HEAD_OF, Line, MENTORS, PERSON, PROF, STAFF, STUDENT, facts, torn_partner,
+        torn_value, university,
     };
     use dl_base::OutOfMemory;
     use std::alloc::Global;
@@ -114,6 +115,24 @@ mod tests {
         );
         assert_eq!(rt;
             name_of(alloc, &rules, badge, &[])?,
+            Some(IllFormed::Alone(0))
+        );
+        Ok(())
+    }
+
+    // Who needs what can't be clashes alone: under each of the two ontologies a person can't be.
+    #[test]
+    fn an_insertion_that_needs_what_cannot_be_is_named(rt: HostRuntime) -> Result<(), Fail> {
+        let alloc = rt.alloc();
+        let person: &[Line] = &[(PERSON, "ann", "")];
+        let partner = torn_partner(alloc)?;
+        let value = torn_value(alloc)?;
+        assert_eq!(rt;
+            name_of(alloc, &partner, person, &[])?,
+            Some(IllFormed::Alone(0))
+        );
+        assert_eq!(rt;
+            name_of(alloc, &value, person, &[])?,
             Some(IllFormed::Alone(0))
         );
         Ok(())

@@ -52,8 +52,8 @@ mod tests {
     use crate::judging::IllFormed;
     use crate::rules::Rules;
     use crate::university::{
-        BADGE, COURSE, HEAD_OF, Line, PERSON, PROF, STAFF, STUDENT, TEACHES, answer, are,
-        university,
+        BADGE, COURSE, HEAD_OF, Line, MENTORS, PERSON, PROF, STAFF, STUDENT, TEACHES, answer, are,
+        chosen_partner, torn_partner, torn_value, university,
     };
     use std::process::Abort;
     use std::test::Fail;
@@ -88,11 +88,11 @@ mod tests {
         holds(&rt, alloc, &rules, of_class)?;
         let left: &[Line] = &[(PERSON, "ann", ""), (STAFF, "ann", ""), (COURSE, "cs1", "")];
         let of_entailed = Row {
-            stored: &[(PERSON, "ann", ""), (TEACHES, "ann", "cs1")],
+            stored: &[(TEACHES, "ann", "cs1")],
             inserts: &[],
             deletes: prof,
             put: left,
-            added: &[(STAFF, "ann", ""), (COURSE, "cs1", "")],
+            added: left,
             lost: &[(PROF, "ann", ""), (TEACHES, "ann", "cs1")],
             after: left,
         };
@@ -129,21 +129,64 @@ mod tests {
         Ok(())
     }
 
+    // A survivor that the set holds already is put, and not added.
+    #[test]
+    fn what_survives_may_be_held(rt: HostRuntime) -> Result<(), Fail> {
+        let alloc = rt.alloc();
+        let rules = university(alloc)?;
+        let left: &[Line] = &[(PERSON, "ann", ""), (STAFF, "ann", ""), (COURSE, "cs1", "")];
+        let of_entailed = Row {
+            stored: &[(PERSON, "ann", ""), (TEACHES, "ann", "cs1")],
+            inserts: &[],
+            deletes: &[(PROF, "ann", "")],
+            put: left,
+            added: &[(STAFF, "ann", ""), (COURSE, "cs1", "")],
+            lost: &[(PROF, "ann", ""), (TEACHES, "ann", "cs1")],
+            after: left,
+        };
+        holds(&rt, alloc, &rules, of_entailed)?;
+        Ok(())
+    }
+
     #[test]
     fn what_is_held_already_is_put_and_changes_nothing(rt: HostRuntime) -> Result<(), Fail> {
         let alloc = rt.alloc();
         let rules = university(alloc)?;
         let badge: &[Line] = &[(BADGE, "ann", "7")];
-        let of_attr = Row {
-            stored: badge,
-            inserts: badge,
-            deletes: &[(STUDENT, "ann", "")],
-            put: badge,
-            added: &[],
+        let prof: &[Line] = &[(PROF, "ann", "")];
+        let student: &[Line] = &[(STUDENT, "ann", "")];
+        let nothing: &[Line] = &[];
+        for (held, deletes) in [(badge, nothing), (prof, student)] {
+            let row = Row {
+                stored: held,
+                inserts: held,
+                deletes,
+                put: held,
+                added: &[],
+                lost: &[],
+                after: held,
+            };
+            holds(&rt, alloc, &rules, row)?;
+        }
+        Ok(())
+    }
+
+    // A partner that only has to exist is no fact: nothing but the insertion is stored.
+    #[test]
+    fn what_an_insertion_needs_is_not_stored(rt: HostRuntime) -> Result<(), Fail> {
+        let alloc = rt.alloc();
+        let rules = chosen_partner(alloc)?;
+        let person: &[Line] = &[(PERSON, "ann", "")];
+        let row = Row {
+            stored: &[],
+            inserts: person,
+            deletes: &[],
+            put: person,
+            added: person,
             lost: &[],
-            after: badge,
+            after: person,
         };
-        holds(&rt, alloc, &rules, of_attr)?;
+        holds(&rt, alloc, &rules, row)?;
         Ok(())
     }
 
@@ -168,12 +211,34 @@ mod tests {
     fn a_step_refuses_what_is_ill_formed(rt: HostRuntime) -> Result<(), Fail> {
         let alloc = rt.alloc();
         let rules = university(alloc)?;
+        let nothing: &[Line] = &[];
         let heads: &[Line] = &[(HEAD_OF, "ann", "d1"), (HEAD_OF, "ann", "d2")];
-        let refusal = answer(&rt, alloc, &rules, &[], heads, &[]).err();
-        assert_eq!(rt;
-            refusal,
-            Some(StepRefusal::IllFormed(IllFormed::Pair(0, 1)))
-        );
+        let prof: &[Line] = &[(PROF, "ann", "")];
+        let person: &[Line] = &[(PERSON, "ann", "")];
+        let mentor: &[Line] = &[(MENTORS, "ann", "ann")];
+        let badge: &[Line] = &[(BADGE, "ann", "x")];
+        for (inserts, deletes, want) in [
+            (heads, nothing, IllFormed::Pair(0, 1)),
+            (prof, person, IllFormed::Entails(0, 0)),
+            (prof, prof, IllFormed::Entails(0, 0)),
+            (mentor, nothing, IllFormed::Alone(0)),
+            (badge, nothing, IllFormed::Alone(0)),
+        ] {
+            let refusal = answer(&rt, alloc, &rules, &[], inserts, deletes).err();
+            assert_eq!(rt; refusal, Some(StepRefusal::IllFormed(want)));
+        }
+        Ok(())
+    }
+
+    #[test]
+    fn a_step_refuses_what_needs_what_cannot_be(rt: HostRuntime) -> Result<(), Fail> {
+        let alloc = rt.alloc();
+        let person: &[Line] = &[(PERSON, "ann", "")];
+        let want = Some(StepRefusal::IllFormed(IllFormed::Alone(0)));
+        let partner = torn_partner(alloc)?;
+        let value = torn_value(alloc)?;
+        assert_eq!(rt; answer(&rt, alloc, &partner, &[], person, &[]).err(), want);
+        assert_eq!(rt; answer(&rt, alloc, &value, &[], person, &[]).err(), want);
         Ok(())
     }
 }

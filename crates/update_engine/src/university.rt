@@ -77,6 +77,17 @@ pub fn torn_partner(alloc: Global) -> Result<Rules, Fail> {
     )
 }
 
+/// Over the same terms: each person teaches some member of staff, and what is taught is a course.
+pub fn chosen_partner(alloc: Global) -> Result<Rules, Fail> {
+    rules(
+        alloc,
+        vec![in alloc;
+            Axiom::ConceptSome(class(PERSON), direct(TEACHES), class(STAFF)),
+            Axiom::ConceptIn(Basic::Exists(inverse(TEACHES)), class(COURSE)),
+        ]?,
+    )
+}
+
 /// Over the same terms: each person has a badge, and a badge is an integer and a string.
 pub fn torn_value(alloc: Global) -> Result<Rules, Fail> {
     let integer = Name::of(alloc, INTEGER.as_bytes())?;
