@@ -1,0 +1,4 @@
+pub mod CuttingLaws
+pub mod GrammarLaws
+pub mod LineLaws
+pub mod TokenLaws
