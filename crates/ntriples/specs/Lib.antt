@@ -3,5 +3,7 @@ pub mod Faults
 pub mod Tokens
 pub mod Grammar
 pub mod Lines
+pub mod Meaning
+pub mod Files
 pub mod Steps
 pub mod Printing

@@ -3,10 +3,13 @@
 
 mod cutting;
 mod faults;
+mod files;
 mod grammar;
 mod lines;
+mod meaning;
 mod pieces;
 mod printing;
 mod tokens;
 
+pub use files::{ReadFacts, read_facts};
 pub use printing::{print_facts, push_line};
