@@ -4,3 +4,7 @@ pub mod LineLaws
 pub mod FileLaws
 pub mod MeaningLaws
 pub mod TokenLaws
+pub mod ExactTokens
+pub mod ExactLines
+pub mod ExactMeaning
+pub mod ExactFiles

@@ -5,6 +5,7 @@ mod cutting;
 mod faults;
 mod files;
 mod grammar;
+mod laws;
 mod lines;
 mod meaning;
 mod pieces;
@@ -12,4 +13,5 @@ mod printing;
 mod tokens;
 
 pub use files::{ReadFacts, read_facts};
+pub use laws::reads_one;
 pub use printing::{print_facts, push_line};
