@@ -8,3 +8,4 @@ pub mod ExactTokens
 pub mod ExactLines
 pub mod ExactMeaning
 pub mod ExactFiles
+pub mod GatheringLaws

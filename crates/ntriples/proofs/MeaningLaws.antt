@@ -1,10 +1,12 @@
 -- What lines say is of the ontology.
 use Rattle.std.proofs.Common.{◌≡◌, ℕ, List, [], ◌∷◌, ◌++◌, Option, Some, None, Result, Ok, Err, inl, refl, sym, subst}
-use Rattle.std.specs.Prelude.{All, Contains, ◌↔◌}
+use Rattle.std.specs.Prelude.{All, Contains, IfOk}
 use Rattle.std.specs.List.{flat_map}
 use Rattle.std.proofs.lemmas.List.Elements.{All-nil, All-cons, All-append, All-contains, All-weaker, All-contains_itself}
 use Rattle.dl_base.specs.declared.statements.Fact.{Fact}
 use Rattle.dl_base.specs.Ontologies.{Theory, Knows}
+use Rattle.dl_base.specs.Repeats.{IsOnce}
+use Rattle.dl_base.proofs.RepeatsLaws.{once_has}
 use Rattle.dl_text.specs.Going.{Goes, stop, go}
 use Rattle.triples.specs.declared.meaning.Object as meant_type
 use Rattle.triples.specs.declared.meaning.Said.{Said}
@@ -14,11 +16,13 @@ use Rattle.triples.specs.Meaning.{KnowsSaid}
 use Rattle.triples.proofs.KnownLaws.{said_known}
 use Rattle.dl_text.specs.declared.faults.TextFault.{TextFault}
 use Rattle.dl_text.specs.declared.faults.TextFault.TheVariants as texts
+use Rattle.dl_text.specs.declared.refusals.ReadRefusal.{ReadRefusal}
 use Rattle.dl_text.specs.Literals.{ReadsValue}
+use Rattle.ntriples.specs.declared.files.ReadFacts.{ReadFacts}
 use Rattle.ntriples.specs.declared.grammar.Triple.{Triple}
 use Rattle.ntriples.specs.Faults.{fault_of}
 use Rattle.ntriples.specs.Meaning.{IsLiteral, StandsFor, Means, Says, LineSays}
-use Rattle.ntriples.specs.Files.{Place, start, LineStep, facts_of, SaysAll}
+use Rattle.ntriples.specs.Files.{Place, start, LineStep, facts_of, SaysAll, SaysFacts, ReadsLines}
 
 pub no_literal : (text datatype tag : List ℕ) (f : TextFault) → ReadsValue text datatype tag (Err f) → Means (IsLiteral text datatype tag) (Err f)
 no_literal text datatype tag texts.BadLiteral h = λ meant (value, is, e). h value is
@@ -55,10 +59,18 @@ known_lines : (theory : Theory) (s e : Place) (its : List (Option Said)) → Goe
 known_lines theory s e its (stop v) more a = a
 known_lines theory s e its (go v m w it os k g) more a = All-append (Knows theory) (facts_of it) (flat_map facts_of (os ++ more)) (known_line theory k.front it k.says) (known_lines theory m w os g more a)
 
-pub says_known : (theory : Theory) (bytes : List ℕ) (facts : List Fact) (skipped : ℕ) → SaysAll theory bytes facts skipped → All (Knows theory) facts
+says_known : (theory : Theory) (bytes : List ℕ) (facts : List Fact) (skipped : ℕ) → SaysAll theory bytes facts skipped → All (Knows theory) facts
 says_known theory bytes facts skipped h =
     subst (All (Knows theory)) (sym h.facts_are)
     (known_lines theory (start bytes) h.here h.before h.goes (h.last ∷ []) (All-append (Knows theory) (facts_of h.last) [] (known_line theory h.here.rest h.last h.says) (All-nil (Knows theory))))
 
-pub once_known : (theory : Theory) (facts kept : List Fact) → All (Knows theory) facts → ((f : Fact) → Contains kept f ↔ Contains facts f) → All (Knows theory) kept
-once_known theory facts kept a same = All-weaker (Contains kept) (Knows theory) (λ f c. All-contains (Knows theory) facts f a ((same f).0 c)) kept (All-contains_itself kept)
+once_known : (theory : Theory) (facts kept : List Fact) → All (Knows theory) facts → IsOnce facts kept → All (Knows theory) kept
+once_known theory facts kept a h = All-weaker (Contains kept) (Knows theory) (λ f c. All-contains (Knows theory) facts f a ((once_has facts kept h f).0 c)) kept (All-contains_itself kept)
+
+-- what is read is known
+read_known : (theory : Theory) (bytes : List ℕ) (facts : List Fact) (skipped : ℕ) → SaysFacts theory bytes facts skipped → All (Knows theory) facts
+read_known theory bytes facts skipped (all, says, once) = once_known theory all facts (says_known theory bytes all skipped says) once
+
+pub lines_known : (theory : Theory) (bytes : List ℕ) (r : Result ReadFacts ReadRefusal) → ReadsLines theory bytes r → IfOk r (λ read. All (Knows theory) read.facts)
+lines_known theory bytes (Ok read) h = read_known theory bytes read.facts read.skipped h
+lines_known theory bytes (Err f) h = tt

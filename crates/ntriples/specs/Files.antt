@@ -98,8 +98,8 @@ Reads theory bytes (Ok found) = IsUtf8 bytes × SaysFacts theory bytes found.fac
 Reads theory bytes (Err (refusals.Refused line kind)) = IsNoText bytes line kind ⊎ (IsUtf8 bytes × RefusesAt theory bytes line kind)
 Reads theory bytes (Err refusals.OutOfMemory) = Unit {0}
 
--- the same without the first pass, and repeats kept
+-- the same without the first pass
 abbrev pub ReadsLines : Theory → List ℕ → Result ReadFacts ReadRefusal → Type 0
-ReadsLines theory bytes (Ok found) = SaysAll theory bytes found.facts found.skipped
+ReadsLines theory bytes (Ok found) = SaysFacts theory bytes found.facts found.skipped
 ReadsLines theory bytes (Err (refusals.Refused line kind)) = RefusesAt theory bytes line kind
 ReadsLines theory bytes (Err refusals.OutOfMemory) = Unit {0}

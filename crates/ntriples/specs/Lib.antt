@@ -4,6 +4,7 @@ pub mod Tokens
 pub mod Grammar
 pub mod Lines
 pub mod Meaning
+pub mod Gathering
 pub mod Files
 pub mod Steps
 pub mod Printing

@@ -1,11 +1,13 @@
-ghost use Rattle.std.specs.Prelude.{◌≡◌, ◌++◌, ◌+◌, ◌≤◌, ◌<◌, ◌^◌, All, IfOk};
+ghost use Rattle.std.specs.Prelude.{◌≡◌, ◌+◌, ◌≤◌, ◌<◌, ◌^◌, All, IfOk, OnOk};
 ghost use Rattle.dl_base.specs.Ontologies.{Knows};
-ghost use Rattle.ntriples.specs.Files.{Reads, ReadsLines, facts_of, skips_of, number_after};
+ghost use Rattle.ntriples.specs.Files.{Reads, ReadsLines, skips_of, number_after};
+ghost use Rattle.ntriples.specs.Gathering.{IsKept};
 
+use crate::gathering::Gathered;
 use crate::meaning::line_says;
-use dl_base::{Fact, Facts, Ontology, once};
+use dl_base::{Facts, Ontology, OutOfMemory};
 use dl_text::{NamePool, ReadKind, ReadRefusal, line_at, utf8_fault};
-use std::alloc::{AllocError, Global};
+use std::alloc::Global;
 use text_cuts::cut_at_either;
 use triples::Said;
 
@@ -17,8 +19,8 @@ pub struct ReadFacts {
 }
 
 /// Keeps a fact, and counts a skipped triple.
-fn keep(facts: &mut Vec<Fact>, it: Option<Said>) -> Result<u64, AllocError>
-    ensures facts { IfOk result (λ n. facts.new.items ≡ facts.old.items ++ facts_of it) }
+fn keep(facts: &mut Gathered, it: Option<Said>) -> Result<u64, OutOfMemory>
+    ensures facts { OnOk result (IsKept facts.old it facts.new) }
     ensures skipped { IfOk result (λ n. n ≡ skips_of it) }
     ensures at_most { IfOk result (λ n. n ≤ 1) }
 {
@@ -26,7 +28,7 @@ fn keep(facts: &mut Vec<Fact>, it: Option<Said>) -> Result<u64, AllocError>
         None => Ok(0),
         Some(Said::Skipped) => Ok(1),
         Some(Said::Fact(fact)) => {
-            facts.push(fact)?;
+            facts.join(fact)?;
             Ok(0)
         }
     }
@@ -41,11 +43,11 @@ fn number_after(line: u64, end: u8) -> u64
     if end == b'\n' { line + 1 } else { line }
 }
 
-/// The facts that the lines say, repeats kept.
+/// The facts that the lines of a text say.
 fn read_lines(alloc: Global, bytes: &[u8], ontology: &Ontology) -> Result<ReadFacts, ReadRefusal>
     ensures { ReadsLines ontology.now bytes.now result }
 {
-    let mut facts = Vec::new(alloc);
+    let mut facts = Gathered::new(alloc);
     let mut pool = NamePool::new(alloc);
     let mut skipped = 0;
     let mut line = 1;
@@ -68,7 +70,7 @@ fn read_lines(alloc: Global, bytes: &[u8], ontology: &Ontology) -> Result<ReadFa
     };
     match keep(&mut facts, it) {
         Ok(more) => Ok(ReadFacts {
-            facts: Facts::of(facts),
+            facts: facts.into_facts(alloc)?,
             skipped: skipped + more,
         }),
         Err(_) => Err(ReadRefusal::OutOfMemory),
@@ -93,15 +95,5 @@ pub fn read_facts(
             kind: ReadKind::BadUtf8,
         });
     }
-    let ReadFacts { facts, skipped } = match read_lines(alloc, bytes, ontology) {
-        Ok(read) => read,
-        Err(refusal) => return Err(refusal),
-    };
-    match once(alloc, facts.as_slice()) {
-        Ok(kept) => Ok(ReadFacts {
-            facts: Facts::of(kept),
-            skipped,
-        }),
-        Err(_) => Err(ReadRefusal::OutOfMemory),
-    }
+    read_lines(alloc, bytes, ontology)
 }

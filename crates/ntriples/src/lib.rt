@@ -4,6 +4,7 @@
 mod cutting;
 mod faults;
 mod files;
+mod gathering;
 mod grammar;
 mod laws;
 mod lines;
