@@ -9,3 +9,6 @@ pub mod ExactLines
 pub mod ExactMeaning
 pub mod ExactFiles
 pub mod GatheringLaws
+pub mod WritingLaws
+pub mod EscapedLaws
+pub mod LineParts

@@ -8,3 +8,4 @@ pub mod Gathering
 pub mod Files
 pub mod Steps
 pub mod Printing
+pub mod Writing

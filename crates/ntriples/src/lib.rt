@@ -9,10 +9,14 @@ mod grammar;
 mod laws;
 mod lines;
 mod meaning;
+mod measuring;
 mod pieces;
 mod printing;
 mod tokens;
+mod writing;
 
 pub use files::{ReadFacts, read_facts};
 pub use laws::reads_one;
+pub use measuring::line_length;
 pub use printing::{print_facts, push_line};
+pub use writing::write_line;
