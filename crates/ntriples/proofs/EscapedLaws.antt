@@ -1,7 +1,7 @@
 -- How the text of a literal is written, run by run.
 use Rattle.std.proofs.Common.{◌≡◌, ◌≢◌, ◌+◌, ◌<◌, ℕ, List, [], ◌∷◌, ◌++◌, length, take, drop, get_or, refl, sym, ap, ◌∙◌, append_assoc, arith, inl, inr}
 use Rattle.std.proofs.lemmas.Bool.Decides.{nat_tests}
-use Rattle.std.proofs.lemmas.List.{append-nil, take_more, drop_more, take-append-drop}
+use Rattle.std.proofs.lemmas.List.{append-nil, length-append, take_more, drop_more, take-append-drop}
 use Rattle.dl_text.specs.Printing.{written, written_byte}
 use Rattle.ntriples.specs.Writing.{IsEscaped}
 
@@ -27,3 +27,17 @@ pub cut_is : (text : List ℕ) (i d : ℕ) → i < length text → written (take
 cut_is text i d l h =
     ap written (sym (take-append-drop i text) ∙ ap (λ (zs : List ℕ). take i text ++ zs) (drop_more text i d l)) ∙ written-append (take i text) (get_or text i d ∷ drop (i + 1) text)
     ∙ ap (λ (zs : List ℕ). zs ++ written (get_or text i d ∷ drop (i + 1) text)) h
+
+pub written_long : (text : List ℕ) (i d : ℕ) → i < length text → length (written (take (i + 1) text)) ≡ length (written (take i text)) + length (written_byte (get_or text i d))
+written_long text i d l =
+    let b = get_or text i d in
+    omega (arith, ap (λ (zs : List ℕ). length (written zs)) (take_more text i d l), ap length (written-append (take i text) (b ∷ [])), length-append (written (take i text)) (written (b ∷ [])), ap length (append-nil (written_byte b)))
+
+pub escaped_two : (b : ℕ) → IsEscaped b → length (written_byte b) ≡ 2
+escaped_two b (inl e) = ap (λ (z : ℕ). length (written_byte z)) e
+escaped_two b (inr (inl e)) = ap (λ (z : ℕ). length (written_byte z)) e
+escaped_two b (inr (inr (inl e))) = ap (λ (z : ℕ). length (written_byte z)) e
+escaped_two b (inr (inr (inr e))) = ap (λ (z : ℕ). length (written_byte z)) e
+
+pub plain_one : (b : ℕ) → ¬ IsEscaped b → length (written_byte b) ≡ 1
+plain_one b n = ap length (plain b n)

@@ -12,6 +12,8 @@ mod meaning;
 mod measuring;
 mod pieces;
 mod printing;
+#[cfg(test)]
+mod tests;
 mod tokens;
 mod writing;
 
