@@ -7,7 +7,7 @@ use Rattle.dl_base.specs.Repeats.{IsOnceAfter, IsOnce}
 use Rattle.dl_base.proofs.Members.{here, there, nowhere, cons_cases}
 use Rattle.dl_base.proofs.VocabularyLaws.{take_on}
 
-new_push : (seen facts kept : List Fact) (f : Fact) → IsOnceAfter seen facts kept → ¬ Contains seen f → ¬ Contains facts f → IsOnceAfter seen (facts ++ f ∷ []) (kept ++ f ∷ [])
+pub new_push : (seen facts kept : List Fact) (f : Fact) → IsOnceAfter seen facts kept → ¬ Contains seen f → ¬ Contains facts f → IsOnceAfter seen (facts ++ f ∷ []) (kept ++ f ∷ [])
 new_push seen [] kept f h n m = inr (n, ([], ap (λ (zs : List Fact). zs ++ f ∷ []) h, refl))
 new_push seen (g ∷ facts) kept f (inl h) n m = inl (h.0, new_push seen facts kept f h.1 n (λ k. m (there g facts f k)))
 new_push seen (g ∷ facts) kept f (inr h) n m =
@@ -22,7 +22,7 @@ new_push seen (g ∷ facts) kept f (inr h) n m =
       ),
     )
 
-old_push : (seen facts kept : List Fact) (f : Fact) → IsOnceAfter seen facts kept → Contains seen f ⊎ Contains facts f → IsOnceAfter seen (facts ++ f ∷ []) kept
+pub old_push : (seen facts kept : List Fact) (f : Fact) → IsOnceAfter seen facts kept → Contains seen f ⊎ Contains facts f → IsOnceAfter seen (facts ++ f ∷ []) kept
 old_push seen [] kept f h (inl m) = inl (m, h)
 old_push seen [] kept f h (inr m) = absurd (nowhere f m)
 old_push seen (g ∷ facts) kept f (inl h) m =

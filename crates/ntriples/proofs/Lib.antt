@@ -1,0 +1,14 @@
+pub mod CuttingLaws
+pub mod GrammarLaws
+pub mod LineLaws
+pub mod FileLaws
+pub mod MeaningLaws
+pub mod TokenLaws
+pub mod ExactTokens
+pub mod ExactLines
+pub mod ExactMeaning
+pub mod ExactFiles
+pub mod GatheringLaws
+pub mod WritingLaws
+pub mod EscapedLaws
+pub mod LineParts

@@ -1,1 +1,11 @@
+pub mod Cutting
+pub mod Faults
+pub mod Tokens
+pub mod Grammar
+pub mod Lines
+pub mod Meaning
+pub mod Gathering
+pub mod Files
+pub mod Steps
 pub mod Printing
+pub mod Writing

@@ -1,13 +1,13 @@
-ghost use Rattle.std.specs.Prelude.{◌≡◌, ◌++◌, ◌∷◌, [], OnOk, IfOk};
+ghost use Rattle.std.specs.Prelude.{◌≡◌, ◌≤◌, ◌^◌, ◌++◌, ◌∷◌, [], length, OnOk, IfOk};
 ghost use Rattle.dl_text.specs.Printing.{written, written_byte};
 ghost use Rattle.ntriples.specs.Printing.{iri, behind, datatype_of, literal, triple, name_of, line, lines, rdf_type};
 
 use dl_base::{Fact, Ontology, OutOfMemory, Term, Value};
 use std::alloc::Global;
 
-const RDF_TYPE: &[u8] = b"http://www.w3.org/1999/02/22-rdf-syntax-ns#type";
+pub const RDF_TYPE: &[u8] = b"http://www.w3.org/1999/02/22-rdf-syntax-ns#type";
 
-const XSD_STRING: &[u8] = b"http://www.w3.org/2001/XMLSchema#string";
+pub const XSD_STRING: &[u8] = b"http://www.w3.org/2001/XMLSchema#string";
 
 /// A line for each fact, in order: subject, predicate and object with single spaces, a point and LF. A class fact has the predicate
 /// `rdf:type`; `xsd:string` isn't printed, a language tag is (RDF 1.1 N-Triples, in its canonical form but for these escapes alone:
@@ -72,8 +72,9 @@ fn push_value(
 }
 
 /// The bytes of the term's name, none where it is out of range.
-fn name(ontology: &Ontology, term: Term) -> &[u8]
-    ensures { result.now ≡ name_of ontology.now term }
+pub fn name(ontology: &Ontology, term: Term) -> &[u8]
+    ensures value { result.now ≡ name_of ontology.now term }
+    ensures short { length result.now ≤ 2 ^ 28 }
 {
     match ontology.name(term) {
         Some(name) => name.as_slice(),

@@ -1,0 +1,7 @@
+pub mod CharLaws
+pub mod DotLaws
+pub mod RunLaws
+pub mod TagLaws
+pub mod TextLaws
+pub mod LabelLaws
+pub mod CutLaws
