@@ -260,3 +260,7 @@ starts theory given facts version ontology consistent known sorted same is = rec
 pub no_plan : (plan : Option Plan) → requests_of plan ≡ [] → plan ≡ None
 no_plan None h = refl
 no_plan (Some plan) h = absurd (let no : ⊥ = cc in no)
+
+pub version_sorted : (facts : List Fact) (entries : List Entry) (v : List Fact) → AreSorted facts → IsVersion facts entries v → AreSorted v
+version_sorted facts [] v h is = subst AreSorted (sym is) h
+version_sorted facts (e ∷ entries) v h is = version_sorted is.0 entries v is.1.0 is.2

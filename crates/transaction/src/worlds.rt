@@ -63,7 +63,8 @@ impl<V: Versions> Model for World<V> {
 
 impl<V: Versions + Drop> World<V> {
     ghost use Rattle.transaction.specs.Worlds.{StepsTo, KnowsEvent, IsOfOne, HasRoom};
-    ghost use Rattle.dl_base.specs.Histories.{IsVersion};
+    ghost use Rattle.dl_base.specs.FactOrder.{AreSorted};
+    ghost use Rattle.dl_base.specs.Histories.{IsVersion, in_force};
 
     /// No transaction so far, over these facts.
     pub fn start(
@@ -99,9 +100,11 @@ impl<V: Versions + Drop> World<V> {
         self.entries.as_slice()
     }
 
-    /// The facts that stand after all entries.
+    /// The facts that stand after all entries. So far no entry replaces the ontology.
     pub fn version(&self) -> &V
-        ensures { IsVersion self.now.facts self.now.entries (V.facts result.now) }
+        ensures stands { IsVersion self.now.facts self.now.entries (V.facts result.now) }
+        ensures sorted { AreSorted (V.facts result.now) }
+        ensures force { in_force self.now.opening self.now.entries ≡ self.now.opening }
     {
         &self.version
     }

@@ -1,0 +1,8 @@
+//! The opening of a base: an ontology, its facts, and that they are consistent.
+#![tactic(auto)]
+
+mod opening;
+mod refusals;
+
+pub use opening::{Opened, load_over, open};
+pub use refusals::LoadRefusal;

@@ -1,0 +1,9 @@
+use Rattle.std.proofs.Common.{subst, ap, sym, ◌∙◌}
+use Rattle.std.specs.Arc.{arc_value}
+use Rattle.dl_base.specs.Histories.{IsVersion, in_force}
+use Rattle.transaction.specs.Worlds.{State}
+use Rattle.transaction.proofs.WorldLaws.{version_sorted}
+use Rattle.transaction.proofs.worlds.World.version.Goals as goal
+
+pub returns-clause-sorted : goal.returns-clause-sorted
+returns-clause-sorted g c = let w = c.self.inside in version_sorted (g.V.FactSet.facts w.opening) w.entries (g.V.FactSet.facts w.version) c.self.invariant.legal.sorted c.self.invariant.stands
