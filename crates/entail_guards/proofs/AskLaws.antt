@@ -1,6 +1,6 @@
 -- The patterns that ask for the facts which entail what is asked for.
-use Rattle.std.proofs.Common.{◌≡◌, List, [], ◌∷◌, ◌++◌, refl, sym, subst, inl, inr, ◌⊎◌, ⊎_elim, ℕ, ◌<◌, ◌+◌, Option, Some, None, ap, ◌∙◌, arith}
-use Rattle.std.specs.Prelude.{◌↔◌, Contains}
+use Rattle.std.proofs.Common.{◌≡◌, List, [], ◌∷◌, ◌++◌, refl, sym, subst, inl, inr, ◌⊎◌, ⊎_elim, ℕ, ◌+◌, Option, Some, None, ap, ◌∙◌, arith}
+use Rattle.std.specs.Prelude.{◌↔◌}
 use Rattle.std.proofs.lemmas.Bool.{cases_lt}
 use Rattle.std.proofs.lemmas.List.Elements.{Contains-append_left, Contains-append_right, Contains-append_cases}
 use Rattle.dl_base.specs.declared.axioms.Axiom.{Axiom}
@@ -19,11 +19,10 @@ use Rattle.dl_base.specs.Ontologies.{Theory, Knows, IsTerm}
 use Rattle.dl_base.specs.Patterns.{Matches}
 use Rattle.dl_base.specs.Reach.{ConceptReaches}
 use Rattle.dl_base.proofs.Members.{here, alone}
-use Rattle.entail_guards.specs.declared.asking.Way.{Way}
 use Rattle.entail_guards.specs.declared.asking.Way.TheVariants as way
-use Rattle.entail_guards.specs.Asking.{IsAsked, AsksMore, AsksBelow, OfTerm, Finds}
+use Rattle.entail_guards.specs.Asking.{AsksMore, AsksBelow, OfTerm, Finds}
 use Rattle.entail_guards.specs.Following.{term_number}
-use Rattle.entail_guards.specs.Matching.{FactMatches, ClassMatches, RoleMatches, AttrMatches}
+use Rattle.entail_guards.specs.Matching.{FactMatches, ClassMatches, AttrMatches}
 
 pub asks_none : (L : Type 0) (c : Pattern) (old : List Pattern) → ¬ L → AsksMore (λ f. L × Matches c f) old old
 asks_none L c old none f = ((λ m. inl m), λ h. ⊎_elim (λ m. m) (λ q. absurd (none q.0)) h)

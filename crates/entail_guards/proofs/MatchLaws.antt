@@ -1,5 +1,5 @@
 -- One fact entails a fact that is asked for exactly where reachability tells it.
-use Rattle.std.proofs.Common.{◌≡◌, List, [], ◌∷◌, refl, sym, subst, inl, inr, ℕ}
+use Rattle.std.proofs.Common.{◌≡◌, List, refl, sym, subst, inl, inr, ℕ}
 use Rattle.std.specs.Prelude.{◌↔◌}
 use Rattle.dl_base.specs.declared.axioms.Axiom.{Axiom}
 use Rattle.dl_base.specs.declared.names.Value.{Value}
