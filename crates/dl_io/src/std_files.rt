@@ -1,4 +1,4 @@
-ghost use Rattle.std.specs.Prelude.{◌≡◌, ◌≤◌, None, IfOk, length};
+ghost use Rattle.std.specs.Prelude.{◌≡◌, ◌≤◌, ◌<◌, None, Err, IfOk, IfSome, length};
 ghost use Rattle.dl_io.specs.Causes.{Rose};
 ghost use Rattle.dl_io.specs.declared.files.FilesRefusal.TheVariants as refusal;
 
@@ -59,7 +59,9 @@ fn read_within<R: Read>(
     reader: &mut R,
     limit: usize,
 ) -> Result<Vec<u8>, FilesRefusal>
-    ensures { IfOk result (λ bytes. length bytes.items ≤ limit) }
+    ensures within { IfOk result (λ bytes. length bytes.items ≤ limit) }
+    ensures whole { IfOk result (λ bytes. IfSome (R.remaining reader.old) (λ rest. bytes.items ≡ rest)) }
+    ensures long { result ≡ Err refusal.TooLong → IfSome (R.remaining reader.old) (λ rest. limit < length rest) }
 {
     let mut bytes = Vec::new(alloc);
     let mut buffer = [0u8; 65536];

@@ -1,8 +1,10 @@
 ghost use Rattle.std.specs.Prelude.{◌≡◌, ◌↔◌, ◌⊎◌, ◌∷◌, [], IsTrue, IfOk, length};
 ghost use Rattle.dl_base.specs.Derivation.{InClosure};
+ghost use Rattle.dl_base.specs.Ontologies.{IsTerm};
 ghost use Rattle.dl_base.specs.Validity.{IsOntology};
+ghost use Rattle.dl_base.specs.declared.terms.Kind.TheVariants as kind;
 ghost use Rattle.dl_base.specs.Reach.{ConceptReaches};
-ghost use Rattle.dl_base.specs.Clash.{RoleReaches};
+ghost use Rattle.dl_base.specs.Clash.{RoleReaches, AttrReaches};
 ghost use Rattle.dl_base.specs.declared.terms.Basic.TheVariants as basic;
 ghost use Rattle.dl_base.specs.declared.terms.RoleSide.TheVariants.{Direct};
 ghost use Rattle.entail_guards.specs.Entailing.{EntailsClass, EntailsRole, EntailsAttr};
@@ -42,6 +44,12 @@ impl Entailers {
         self.implied.terms()
     }
 
+    pub(crate) fn is_role(&self, term: Term) -> bool
+        ensures { IsTrue result ↔ IsTerm self.now term kind.Role }
+    {
+        self.implied.is_role(term)
+    }
+
     /// Whether the closure of the first fact holds the second.
     pub fn entails(&self, first: &Fact, second: &Fact) -> bool
         ensures { IsTrue result ↔ InClosure self.now.axioms (first.now ∷ []) second.now }
@@ -68,7 +76,7 @@ impl Entailers {
         }
     }
 
-    fn reaches_class(&self, from: Basic, class: Term) -> bool
+    pub(crate) fn reaches_class(&self, from: Basic, class: Term) -> bool
         ensures { IsTrue result ↔ ConceptReaches self.now.axioms from (basic.Class class) }
     {
         self.implied.concept(from, Basic::Class(class))
@@ -88,7 +96,7 @@ impl Entailers {
         }
     }
 
-    fn reaches_role(&self, from: RoleSide, role: Term) -> bool
+    pub(crate) fn reaches_role(&self, from: RoleSide, role: Term) -> bool
         ensures { IsTrue result ↔ RoleReaches self.now.axioms from (Direct role) }
     {
         self.implied.role(from, RoleSide::Direct(role))
@@ -98,8 +106,41 @@ impl Entailers {
         ensures { IsTrue result ↔ EntailsAttr self.now.axioms given.now attr from.now value.now }
     {
         match given {
-            Fact::Attr(u, a, v) => from.is(a) && value.is(v) && self.implied.attr(*u, attr),
+            Fact::Attr(u, a, v) => from.is(a) && value.is(v) && self.reaches_attr(*u, attr),
             _ => false,
         }
+    }
+
+    pub(crate) fn reaches_attr(&self, from: Term, attr: Term) -> bool
+        ensures { IsTrue result ↔ AttrReaches self.now.axioms from attr }
+    {
+        self.implied.attr(from, attr)
+    }
+}
+
+#[cfg(test)]
+mod tests {
+    use super::*;
+    use crate::samples::{ROWS, entailers, fact, ontology};
+    use std::test::Fail;
+
+    // Each fact of the rows is entailed by those in whose rows it stands.
+    #[test]
+    fn facts_are_entailed_as_their_rows_say(rt: HostRuntime) -> Result<(), Fail> {
+        let alloc = rt.alloc();
+        let entailers = entailers(alloc, &ontology(alloc)?)?;
+        assert_eq!(rt; entailers.terms(), 8);
+        for (given, entailed) in ROWS {
+            let given = fact(alloc, given)?;
+            for line in ROWS.iter().flat_map(|row| row.1.iter()) {
+                let other = fact(alloc, *line)?;
+                assert_eq!(rt;
+                    entailers.entails(&given, &other),
+                    entailed.contains(line),
+                    "{line:?}"
+                );
+            }
+        }
+        Ok(())
     }
 }

@@ -150,3 +150,25 @@ impl Entailers {
         Ok(())
     }
 }
+
+#[cfg(test)]
+mod tests {
+    use super::*;
+    use crate::samples::{ROWS, entailers, fact, facts, ontology};
+    use std::test::Fail;
+
+    #[test]
+    fn closures_of_single_facts_are_their_rows(rt: HostRuntime) -> Result<(), Fail> {
+        let alloc = rt.alloc();
+        let ontology = ontology(alloc)?;
+        let entailers = entailers(alloc, &ontology)?;
+        for (given, entailed) in ROWS {
+            let given = fact(alloc, given)?;
+            assert!(rt; ontology.knows(&given));
+            let wanted = facts(alloc, entailed)?;
+            let found = entailers.follows(alloc, &given)?;
+            assert_eq!(rt; found.as_slice(), wanted.as_slice());
+        }
+        Ok(())
+    }
+}
