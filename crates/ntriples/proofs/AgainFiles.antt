@@ -22,7 +22,8 @@ use Rattle.ntriples.specs.declared.grammar.Object.{Object}
 use Rattle.ntriples.specs.declared.grammar.Triple.{Triple}
 use Rattle.ntriples.specs.Files.{Place, LineStep, facts_of, all_skips, SaysAll, Reads}
 use Rattle.ntriples.specs.Meaning.{LineSays}
-use Rattle.ntriples.specs.Printing.{xsd_string, line, lines}
+use Rattle.ntriples.specs.Printing.{line, lines}
+use Rattle.dl_text.specs.Namespaces.{xsd_string}
 use Rattle.ntriples.specs.Printable.{IsCanonical, IsPrintable}
 use Rattle.ntriples.proofs.FileLaws.{place}
 use Rattle.ntriples.proofs.LineLaws.{lexes_none}

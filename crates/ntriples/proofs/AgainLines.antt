@@ -6,11 +6,13 @@ use Rattle.dl_base.specs.declared.names.Value.{Value}
 use Rattle.dl_base.specs.declared.statements.Fact.{Fact}
 use Rattle.dl_base.specs.declared.statements.Fact.TheVariants as fact
 use Rattle.dl_base.specs.Ontologies.{Theory}
+use Rattle.dl_text.specs.Namespaces.{xsd_string}
 use Rattle.dl_text.specs.Printing.{written}
+use Rattle.triples.specs.Names.{rdf_type}
 use Rattle.ntriples.specs.declared.grammar.Object.{Object}
 use Rattle.ntriples.specs.declared.grammar.Object.TheVariants as objects
 use Rattle.ntriples.specs.declared.grammar.Triple.{Triple}
-use Rattle.ntriples.specs.Printing.{iri, xsd_string, rdf_type, name_of, literal, triple, line}
+use Rattle.ntriples.specs.Printing.{iri, name_of, literal, triple, line}
 use Rattle.ntriples.specs.Printable.{subject_of, predicate_of}
 use Rattle.ntriples.proofs.PrintLaws.{iri_then, text_then, object_then, printed}
 

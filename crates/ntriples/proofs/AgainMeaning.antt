@@ -14,26 +14,18 @@ use Rattle.dl_base.specs.declared.terms.Kind.TheVariants as kind
 use Rattle.dl_base.specs.declared.terms.Term.{Term}
 use Rattle.dl_base.specs.Ontologies.{Theory, IsTerm, AreNamedOnce}
 use Rattle.dl_text.specs.Literals.{datatype_of, datatype_or_string, Spells, IsValueOf}
-use Rattle.dl_text.specs.Namespaces as namespaces
-use Rattle.triples.specs.Names as names
+use Rattle.dl_text.specs.Namespaces.{xsd_string}
+use Rattle.triples.specs.Names.{rdf_type}
 use Rattle.triples.specs.declared.meaning.Object as meant_type
 use Rattle.triples.specs.declared.meaning.Object.TheVariants as meanings
 use Rattle.triples.specs.declared.meaning.Said.{Said}
 use Rattle.triples.specs.declared.meaning.Said.TheVariants as saids
 use Rattle.triples.specs.Meaning.{term_of, said_of, is_skipped, class_said, link_said, membership}
 use Rattle.triples.proofs.TermLaws.{found_is}
-use Rattle.ntriples.specs.Printing.{xsd_string, rdf_type, name_of, name_in}
+use Rattle.ntriples.specs.Printing.{name_of, name_in}
 use Rattle.ntriples.specs.Printable.{IsCanonical, subject_of, predicate_of, object_of, IsPrintable}
 use Rattle.ntriples.specs.Meaning.{IsLiteral, StandsFor, Says}
 use Rattle.ntriples.proofs.AgainLines.{written_as, value_written, triple_of}
-
-one_name : rdf_type ≡ names.rdf_type
-unfolding names.rdf_type
-one_name = refl
-
-one_string : namespaces.xsd_string ≡ xsd_string
-unfolding namespaces.xsd_string
-one_string = refl
 
 -- a written datatype is none of which nothing is written
 written_datatype : (datatype : List ℕ) → datatype ≢ [] → datatype_of datatype [] ≡ datatype
@@ -42,7 +34,7 @@ written_datatype (b ∷ bs) n = refl
 
 plain_value : (v : Value) → IsValueOf v.text v.datatype [] v → v.datatype ≢ [] → v.datatype ≡ xsd_string → IsValueOf v.text [] [] v
 plain_value v h n e =
-    let is : datatype_of v.datatype [] ≡ datatype_of [] [] = written_datatype v.datatype n ∙ e ∙ sym one_string in record {
+    let is : datatype_of v.datatype [] ≡ datatype_of [] [] = written_datatype v.datatype n ∙ e in record {
       datatype_is = h.datatype_is ∙ is;
       tag_is = h.tag_is;
       spells = subst (λ (z : List ℕ). Spells z v.text v.text) is h.spells;
@@ -88,21 +80,21 @@ named theory t k once (name, e) =
     let is : name_of theory t ≡ name = ap name_in e in
     ap (term_of theory) is ∙ found_is theory name t k once e
 
-kept_said : (theory : Theory) (subject predicate : List ℕ) (object : meant_type.Object) (b : Bool) → is_skipped theory predicate object ≡ false → bytes_eq predicate names.rdf_type ≡ b
+kept_said : (theory : Theory) (subject predicate : List ℕ) (object : meant_type.Object) (b : Bool) → is_skipped theory predicate object ≡ false → bytes_eq predicate rdf_type ≡ b
     → said_of theory subject predicate object ≡ cond b (class_said theory subject object) (link_said subject (term_of theory predicate) object)
 kept_said theory subject predicate object b e f =
-    ap (λ (z : Bool). cond z (Ok saids.Skipped) (cond (bytes_eq predicate names.rdf_type) (class_said theory subject object) (link_said subject (term_of theory predicate) object))) e
+    ap (λ (z : Bool). cond z (Ok saids.Skipped) (cond (bytes_eq predicate rdf_type) (class_said theory subject object) (link_said subject (term_of theory predicate) object))) e
     ∙ ap (λ (z : Bool). cond z (class_said theory subject object) (link_said subject (term_of theory predicate) object)) f
 
 differs : (a b : List ℕ) (t : Bool) → bytes_eq a b ≡ t → a ≢ b → bytes_eq a b ≡ false
 differs a b true e n = absurd (n (same_text a b (sym e)))
 differs a b false e n = e
 
-link_test : (predicate : List ℕ) → predicate ≢ rdf_type → bytes_eq predicate names.rdf_type ≡ false
-link_test predicate n = differs predicate names.rdf_type (bytes_eq predicate names.rdf_type) refl (λ e. n (e ∙ sym one_name))
+link_test : (predicate : List ℕ) → predicate ≢ rdf_type → bytes_eq predicate rdf_type ≡ false
+link_test predicate n = differs predicate rdf_type (bytes_eq predicate rdf_type) refl n
 
-class_test : bytes_eq rdf_type names.rdf_type ≡ true
-unfolding names.rdf_type
+class_test : bytes_eq rdf_type rdf_type ≡ true
+unfolding rdf_type
 class_test = refl
 
 said : (theory : Theory) (f : Fact) → AreNamedOnce theory → IsPrintable theory f → said_of theory (subject_of f) (predicate_of theory f) (object_of theory f) ≡ Ok (saids.Fact f)

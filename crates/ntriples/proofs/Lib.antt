@@ -17,3 +17,4 @@ pub mod AgainLines
 pub mod AgainMeaning
 pub mod AgainTexts
 pub mod AgainFiles
+pub mod MeasureLaws

@@ -12,7 +12,8 @@ use Rattle.text_cuts.specs.Cuts.{IsTag}
 use Rattle.triples.specs.declared.meaning.Object.{Object}
 use Rattle.triples.specs.declared.meaning.Object.TheVariants as objects
 use Rattle.triples.specs.Meaning.{is_skipped}
-use Rattle.ntriples.specs.Printing.{rdf_type, name_of}
+use Rattle.triples.specs.Names.{rdf_type}
+use Rattle.ntriples.specs.Printing.{name_of}
 
 -- a text that is an IRI and not too long
 abbrev pub IsName : List ℕ → Type 0
