@@ -1,5 +1,6 @@
 -- How the text of a literal is written, run by run.
-use Rattle.std.proofs.Common.{◌≡◌, ◌≢◌, ◌+◌, ◌<◌, ℕ, List, [], ◌∷◌, ◌++◌, length, take, drop, get_or, refl, sym, ap, ◌∙◌, append_assoc, arith, inl, inr}
+use Rattle.std.proofs.Common.{◌≡◌, ◌≢◌, ◌+◌, ◌<◌, ℕ, List, [], ◌∷◌, ◌++◌, length, take, drop, get_or, refl, sym, ap, ◌∙◌, append_assoc, arith, inl, inr, ◌⊎◌, ⊎_elim}
+use Rattle.std.proofs.lemmas.Bool.{cases_eq}
 use Rattle.std.proofs.lemmas.Bool.Decides.{nat_tests}
 use Rattle.std.proofs.lemmas.List.{append-nil, length-append, take_more, drop_more, take-append-drop}
 use Rattle.dl_text.specs.Printing.{written, written_byte}
@@ -41,3 +42,13 @@ escaped_two b (inr (inr (inr e))) = ap (λ (z : ℕ). length (written_byte z)) e
 
 pub plain_one : (b : ℕ) → ¬ IsEscaped b → length (written_byte b) ≡ 1
 plain_one b n = ap length (plain b n)
+
+pub escaped_or_plain : (b : ℕ) → IsEscaped b ⊎ ((written_byte b ≡ b ∷ []) × (¬ IsEscaped b))
+escaped_or_plain b =
+    ⊎_elim (λ e. inl (inl e)) (λ n. ⊎_elim (λ e. inl (inr (inl e))) (λ m. ⊎_elim (λ e. inl (inr (inr (inl e)))) (λ k. ⊎_elim (λ e. inl (inr (inr (inr e)))) (λ j. let none = not_one b n m k j in inr (plain b none, none)) (cases_eq b 13)) (cases_eq b 10)) (cases_eq b 92)) (cases_eq b 34)
+  where
+    not_one : (b : ℕ) → b ≢ 34 → b ≢ 92 → b ≢ 10 → b ≢ 13 → ¬ IsEscaped b
+    not_one b n m k j (inl e) = n e
+    not_one b n m k j (inr (inl e)) = m e
+    not_one b n m k j (inr (inr (inl e))) = k e
+    not_one b n m k j (inr (inr (inr e))) = j e

@@ -12,3 +12,9 @@ pub mod GatheringLaws
 pub mod WritingLaws
 pub mod EscapedLaws
 pub mod LineParts
+pub mod PrintLaws
+pub mod AgainLines
+pub mod AgainMeaning
+pub mod AgainTexts
+pub mod AgainFiles
+pub mod MeasureLaws

@@ -4,7 +4,8 @@ use Rattle.std.specs.Prelude.{codes, if◌then◌else◌, ◌==◌}
 use Rattle.std.specs.Cmp.Lexicographic.{pointwise}
 use Rattle.dl_base.specs.declared.names.Value.{Value}
 use Rattle.dl_text.specs.Printing.{written}
-use Rattle.ntriples.specs.Printing.{iri, datatype_of, xsd_string, behind, literal, triple}
+use Rattle.ntriples.specs.Printing.{iri, datatype_of, behind, literal, triple}
+use Rattle.dl_text.specs.Namespaces.{xsd_string}
 
 -- behind the text of a literal with no tag and another datatype than xsd:string
 pub typed_end : (v : Value) → (length v.tag == 0) ≡ true → pointwise nat_eq v.datatype xsd_string ≡ false

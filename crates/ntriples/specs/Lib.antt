@@ -6,6 +6,7 @@ pub mod Lines
 pub mod Meaning
 pub mod Gathering
 pub mod Files
+pub mod Printable
 pub mod Steps
 pub mod Printing
 pub mod Writing

@@ -8,15 +8,9 @@ use Rattle.dl_base.specs.declared.statements.Fact.TheVariants as fact
 use Rattle.dl_base.specs.declared.terms.Kind.{Kind}
 use Rattle.dl_base.specs.declared.terms.Term.{Term}
 use Rattle.dl_base.specs.Ontologies.{Theory}
+use Rattle.dl_text.specs.Namespaces.{xsd_string}
 use Rattle.dl_text.specs.Printing.{written}
-
--- the predicate of class facts
-abbrev pub rdf_type : List ℕ
-rdf_type = codes "http://www.w3.org/1999/02/22-rdf-syntax-ns#type"
-
--- the datatype that isn't printed
-abbrev pub xsd_string : List ℕ
-xsd_string = codes "http://www.w3.org/2001/XMLSchema#string"
+use Rattle.triples.specs.Names.{rdf_type}
 
 -- the name of a term, nothing where there is none
 abbrev pub name_in : Option (List ℕ × Kind) → List ℕ

@@ -18,7 +18,7 @@ mod tokens;
 mod writing;
 
 pub use files::{ReadFacts, read_facts};
-pub use laws::reads_one;
+pub use laws::{printed_reads, reads_one};
 pub use measuring::line_length;
 pub use printing::{print_facts, push_line};
 pub use writing::write_line;

@@ -2,9 +2,11 @@ ghost use Rattle.std.specs.Prelude.{◌≡◌, ◌+◌, ◌*◌, ◌≤◌, ◌^
 ghost use Rattle.dl_text.specs.Printing.{written, written_byte};
 ghost use Rattle.ntriples.specs.Printing.{iri, line, literal, behind, triple};
 
-use crate::printing::{RDF_TYPE, XSD_STRING, name};
+use crate::printing::name;
 use crate::writing::is_escaped;
 use dl_base::{Fact, Ontology, Value};
+use dl_text::xsd_string;
+use triples::rdf_type;
 
 /// The bytes of a text as it is written in a literal.
 fn written_length(text: &[u8]) -> usize
@@ -27,7 +29,7 @@ fn behind_length(value: &Value) -> usize
     let tag = value.tag.as_slice();
     let datatype = value.datatype.as_slice();
     if tag.is_empty() {
-        if datatype == XSD_STRING {
+        if datatype == xsd_string() {
             0
         } else {
             datatype.len() + 4
@@ -54,7 +56,7 @@ pub fn line_length(fact: &Fact, ontology: &Ontology) -> usize
     match fact {
         Fact::Class(class, a) => triple_length(
             a.as_slice().len(),
-            RDF_TYPE.len(),
+            rdf_type().len(),
             name(ontology, *class).len() + 2,
         ),
         Fact::Role(role, a, b) => triple_length(

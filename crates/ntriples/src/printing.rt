@@ -1,13 +1,12 @@
 ghost use Rattle.std.specs.Prelude.{◌≡◌, ◌≤◌, ◌^◌, ◌++◌, ◌∷◌, [], length, OnOk, IfOk};
 ghost use Rattle.dl_text.specs.Printing.{written, written_byte};
-ghost use Rattle.ntriples.specs.Printing.{iri, behind, datatype_of, literal, triple, name_of, line, lines, rdf_type};
+ghost use Rattle.ntriples.specs.Printing.{iri, behind, datatype_of, literal, triple, name_of, line, lines};
+ghost use Rattle.triples.specs.Names.{rdf_type};
 
 use dl_base::{Fact, Ontology, OutOfMemory, Term, Value};
+use dl_text::xsd_string;
 use std::alloc::Global;
-
-pub const RDF_TYPE: &[u8] = b"http://www.w3.org/1999/02/22-rdf-syntax-ns#type";
-
-pub const XSD_STRING: &[u8] = b"http://www.w3.org/2001/XMLSchema#string";
+use triples::rdf_type;
 
 /// A line for each fact, in order: subject, predicate and object with single spaces, a point and LF. A class fact has the predicate
 /// `rdf:type`; `xsd:string` isn't printed, a language tag is (RDF 1.1 N-Triples, in its canonical form but for these escapes alone:
@@ -31,7 +30,7 @@ pub fn push_line(text: &mut Vec<u8>, fact: &Fact, ontology: &Ontology) -> Result
     ensures { OnOk result (text.new.items ≡ text.old.items ++ line ontology.now fact.now) }
 {
     match fact {
-        Fact::Class(class, a) => push_link(text, a.as_slice(), RDF_TYPE, name(ontology, *class)),
+        Fact::Class(class, a) => push_link(text, a.as_slice(), rdf_type(), name(ontology, *class)),
         Fact::Role(role, a, b) => {
             push_link(text, a.as_slice(), name(ontology, *role), b.as_slice())
         }
@@ -153,7 +152,7 @@ fn push_behind(text: &mut Vec<u8>, value: &Value) -> Result<(), OutOfMemory>
 fn push_datatype(text: &mut Vec<u8>, datatype: &[u8]) -> Result<(), OutOfMemory>
     ensures { OnOk result (text.new.items ≡ text.old.items ++ datatype_of datatype.now) }
 {
-    if datatype == XSD_STRING {
+    if datatype == xsd_string() {
         Ok(())
     } else {
         text.extend_from_slice(b"^^")?;

@@ -4,9 +4,11 @@ ghost use Rattle.dl_text.specs.Printing.{written, written_byte};
 ghost use Rattle.ntriples.specs.Printing.{iri, line, triple, literal, behind};
 ghost use Rattle.ntriples.specs.Writing.{IsEscaped, IsPut};
 
-use crate::printing::{RDF_TYPE, XSD_STRING, name};
+use crate::printing::name;
 use dl_base::{Fact, Ontology, Value};
 use dl_io::{Sink, WriteFault, write_all};
+use dl_text::xsd_string;
+use triples::rdf_type;
 
 const OPEN: &[u8] = b"<";
 
@@ -116,7 +118,7 @@ fn put_end<K: Sink>(sink: &mut K, value: &Value) -> Result<(), WriteFault>
     let tag = value.tag.as_slice();
     let datatype = value.datatype.as_slice();
     if tag.is_empty() {
-        if datatype == XSD_STRING {
+        if datatype == xsd_string() {
             put(sink, CLOSED)
         } else {
             put_parts(sink, &[TYPED, datatype, END])
@@ -156,7 +158,7 @@ pub fn write_line<K: Sink>(fact: &Fact, ontology: &Ontology, sink: &mut K) -> Re
     ensures { IsPut (K.written sink.old) (K.written sink.new) (K.faults sink.old) (K.faults sink.new) (line ontology.now fact.now) result }
 {
     match fact {
-        Fact::Class(class, a) => put_link(sink, a.as_slice(), RDF_TYPE, name(ontology, *class)),
+        Fact::Class(class, a) => put_link(sink, a.as_slice(), rdf_type(), name(ontology, *class)),
         Fact::Role(role, a, b) => {
             put_link(sink, a.as_slice(), name(ontology, *role), b.as_slice())
         }

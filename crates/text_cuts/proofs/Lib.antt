@@ -5,3 +5,4 @@ pub mod TagLaws
 pub mod TextLaws
 pub mod LabelLaws
 pub mod CutLaws
+pub mod TagEnds

@@ -1,5 +1,7 @@
 use super::small;
-use crate::{line_length, print_facts, push_line, read_facts, reads_one, write_line};
+use crate::{
+    line_length, print_facts, printed_reads, push_line, read_facts, reads_one, write_line,
+};
 use dl_base::{Fact, Name, Term, Value};
 use dl_io::{MemorySink, WriteFault};
 use std::alloc::Global;
@@ -72,10 +74,10 @@ fn facts_are_written_and_measured(rt: HostRuntime) -> Result<(), Fail> {
     let mut length = 0;
     for fact in facts.as_slice() {
         assert_eq!(rt; write_line(fact, &ontology, &mut sink), Ok(()));
-        length += line_length(fact, &ontology) as u64;
+        length = line_length(fact, &ontology).wrapping_add(length);
     }
     assert_eq!(rt; sink.bytes(), LINES.as_bytes());
-    assert_eq!(rt; length, LINES.len() as u64);
+    assert_eq!(rt; length, LINES.len());
     Ok(())
 }
 
@@ -103,4 +105,5 @@ fn a_failed_write_leaves_a_front(rt: HostRuntime) -> Result<(), Fail> {
 #[test]
 fn laws_hold(_rt: HostRuntime) {
     reads_one();
+    printed_reads();
 }
