@@ -1,0 +1,4 @@
+pub mod CharLaws
+pub mod DotLaws
+pub mod NameLaws
+pub mod TagLaws
