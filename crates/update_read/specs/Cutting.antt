@@ -3,6 +3,7 @@ use Rattle.std.specs.Prelude.{◌≡◌, ◌≢◌, ◌⊎◌, ℕ, List, [], �
 use Rattle.std.specs.Char.{encode_utf8, is_ascii_digit, is_ascii_hexdigit}
 use Rattle.dl_text.specs.Going.{Goes}
 use Rattle.dl_text.specs.Escapes.{joined, is_local_escape}
+use Rattle.dl_text.specs.Values.{digits_of}
 use Rattle.dl_runs.specs.declared.runs.Class.{Class}
 use Rattle.dl_runs.specs.declared.runs.Class.TheVariants as classes
 use Rattle.dl_runs.specs.Classes.{IsOf, IsSome, IsName, IsPrefix, IsTag, IsLongest, IsComment, IsBlank}
@@ -102,18 +103,11 @@ abbrev pub goes_on : List ℕ → Bool
 goes_on [] = false
 goes_on (b ∷ bs) = (b == 46 && (begins_digit bs || begins_exponent bs)) || begins_exponent (b ∷ bs)
 
-abbrev pub IsSign : List ℕ → Type 0
-IsSign sign = (sign ≡ []) ⊎ ((sign ≡ 43 ∷ []) ⊎ (sign ≡ 45 ∷ []))
-
 -- an optional sign and digits, with which no decimal and no double begins
 pub record IsNumber (raw text rest : List ℕ) : Type 0 where
-  pub sign : List ℕ
   pub digits : List ℕ
-  pub behind : List ℕ
-  pub is : raw ≡ sign ++ behind
-  pub is_sign : IsSign sign
-  pub is_digits : IsLongest (IsSome classes.Digit) behind digits rest
-  pub text_is : text ≡ sign ++ digits
+  pub is : raw ≡ text ++ rest
+  pub is_digits : IsLongest (IsSome classes.Digit) (digits_of raw) digits rest
   pub whole : goes_on rest ≡ false
 
 -- where b stands, and bs behind it: a blank or a comment, or a token, and then the rest

@@ -5,3 +5,5 @@ pub mod Grammar
 pub mod Stopping
 pub mod Meaning
 pub mod Outcomes
+pub mod LocalRuns
+pub mod Names

@@ -1,6 +1,9 @@
 //! Ground SPARQL 1.1 Updates: the facts that they insert and delete, or the first refusal at its line.
 #![tactic(auto)]
 
+mod cutting;
+mod locals;
+mod numbers;
 mod reading;
 mod syntax;
 mod texts;

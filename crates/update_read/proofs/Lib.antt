@@ -1,0 +1,4 @@
+pub mod TextLaws
+pub mod LocalLaws
+pub mod NumberLaws
+pub mod PieceLaws
