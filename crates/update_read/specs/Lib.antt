@@ -7,3 +7,4 @@ pub mod Meaning
 pub mod Outcomes
 pub mod LocalRuns
 pub mod Names
+pub mod Reading

@@ -2,6 +2,7 @@
 #![tactic(auto)]
 
 mod cutting;
+mod lexing;
 mod locals;
 mod numbers;
 mod reading;
