@@ -22,27 +22,44 @@ use Rattle.update_read.specs.declared.tokens.Token.{Token}
 use Rattle.update_read.specs.declared.tokens.Token.TheVariants as tokens
 use Rattle.update_read.specs.Tokens.{Lexeme, at}
 
--- what one token is: a sign, a word, a tag, a full IRI, the name of a prefix, the text of a string
+-- what a token is: a sign, a word, a tag, a full IRI, the name of a prefix
+abbrev pub mark_of : Token → Option Mark
+mark_of (tokens.Sign m) = Some m
+mark_of token = None
+
+abbrev pub keyword_of : Token → Option Keyword
+keyword_of (tokens.Word w) = Some w
+keyword_of token = None
+
+abbrev pub tag_of : Token → Option (List ℕ)
+tag_of (tokens.Tag text) = Some text
+tag_of token = None
+
+abbrev pub iri_of : Token → Option (List ℕ)
+iri_of (tokens.Iri name) = Some name
+iri_of token = None
+
+abbrev pub prefix_of : Token → Option (List ℕ)
+prefix_of (tokens.Prefixed prefix []) = Some prefix
+prefix_of token = None
+
+-- and what a token with its line is
 abbrev pub mark : Lexeme → Option Mark
-mark (at line (tokens.Sign m)) = Some m
-mark (at line token) = None
+mark (at line token) = mark_of token
 
 abbrev pub keyword : Lexeme → Option Keyword
-keyword (at line (tokens.Word w)) = Some w
-keyword (at line token) = None
+keyword (at line token) = keyword_of token
 
 abbrev pub tag : Lexeme → Option (List ℕ)
-tag (at line (tokens.Tag text)) = Some text
-tag (at line token) = None
+tag (at line token) = tag_of token
 
 abbrev pub full_iri : Lexeme → Option (List ℕ)
-full_iri (at line (tokens.Iri name)) = Some name
-full_iri (at line token) = None
+full_iri (at line token) = iri_of token
 
 abbrev pub prefix_name : Lexeme → Option (List ℕ)
-prefix_name (at line (tokens.Prefixed prefix [])) = Some prefix
-prefix_name (at line token) = None
+prefix_name (at line token) = prefix_of token
 
+-- the text of a string, with its line
 abbrev pub string : Lexeme → Option (ℕ × List ℕ)
 string (at line (tokens.Text text)) = Some (line, text)
 string (at line token) = None

@@ -6,8 +6,11 @@ mod lexing;
 mod locals;
 mod numbers;
 mod reading;
+mod spots;
+mod steps;
 mod syntax;
 mod texts;
 mod tokens;
+mod views;
 
 pub use reading::ReadUpdate;
