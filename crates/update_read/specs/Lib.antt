@@ -8,3 +8,5 @@ pub mod Outcomes
 pub mod LocalRuns
 pub mod Names
 pub mod Reading
+pub mod Taking
+pub mod Running

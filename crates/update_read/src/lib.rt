@@ -2,8 +2,11 @@
 #![tactic(auto)]
 
 mod cutting;
+mod gathering;
 mod lexing;
+mod lists;
 mod locals;
+mod meaning;
 mod numbers;
 mod reading;
 mod spots;
