@@ -5,3 +5,4 @@ pub mod PieceLaws
 pub mod Rests
 pub mod ViewLaws
 pub mod MeaningLaws
+pub mod ForthLaws
