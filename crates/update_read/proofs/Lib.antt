@@ -6,3 +6,5 @@ pub mod Rests
 pub mod ViewLaws
 pub mod MeaningLaws
 pub mod ForthLaws
+pub mod BackLaws
+pub mod RunLaws
