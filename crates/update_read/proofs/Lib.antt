@@ -8,3 +8,7 @@ pub mod MeaningLaws
 pub mod ForthLaws
 pub mod BackLaws
 pub mod RunLaws
+pub mod StopLaws
+pub mod FinishLaws
+pub mod ParseLaws
+pub mod KnownLaws

@@ -1,5 +1,5 @@
 -- Where a number stands.
-use Rattle.std.proofs.Common.{◌≡◌, ◌-◌, ◌≤◌, ℕ, List, [], ◌∷◌, ◌++◌, Bool, true, false, cond, length, take, drop, refl, sym, ap, subst, ◌∙◌, append_assoc, arith}
+use Rattle.std.proofs.Common.{◌≡◌, ◌≢◌, ◌-◌, ◌<◌, ◌≤◌, ℕ, List, [], ◌∷◌, ◌++◌, Bool, true, false, cond, length, take, drop, refl, sym, ap, subst, ◌∙◌, append_assoc, arith}
 use Rattle.std.specs.Prelude.{◌||◌, ◌==◌}
 use Rattle.std.proofs.lemmas.List.{take-append-drop, length-append}
 use Rattle.dl_text.specs.Values.{digits_of}
@@ -35,3 +35,17 @@ number_at raw digits rest l w =
       is_digits = subst (λ (z : List ℕ). IsLongest (IsSome classes.Digit) (digits_of raw) digits z) cut.1 l;
       whole = ap goes_on (sym cut.1) ∙ w;
     }
+
+-- a number is not empty
+pub number_front : (raw text rest : List ℕ) → IsNumber raw text rest → 0 < length text
+number_front raw text rest n =
+    let s = sign_of raw in
+    let some = some_length n.digits n.is_digits.such.0 in
+    let a = ap length n.is_digits.is in
+    let b = ap length s.1 in
+    let c = ap length n.is in
+    omega (arith, some, a, b, c, length-append n.digits rest, length-append s.0 (digits_of raw), length-append text rest)
+  where
+    some_length : (xs : List ℕ) → xs ≢ [] → 0 < length xs
+    some_length [] n = absurd (n refl)
+    some_length (x ∷ xs) n = omega arith

@@ -10,3 +10,4 @@ pub mod Names
 pub mod Reading
 pub mod Taking
 pub mod Running
+pub mod Going

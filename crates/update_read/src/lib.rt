@@ -8,12 +8,15 @@ mod lists;
 mod locals;
 mod meaning;
 mod numbers;
+mod progress;
 mod reading;
 mod spots;
 mod steps;
 mod syntax;
+#[cfg(test)]
+mod tests;
 mod texts;
 mod tokens;
 mod views;
 
-pub use reading::ReadUpdate;
+pub use reading::{ReadUpdate, read_update};
