@@ -148,8 +148,17 @@ module _ (b : Bindings) (t : Lexeme) (n : List Lexeme) where
     where
       by : AtClose b g.ends g.later → IsUpdate b (t ∷ n) out
       by (j, c, inl (x, y)) = last b (t ∷ n) op g.groups out
-          (record { word_ends = n; data_ends = m; brace_ends = k; triples_end = g.ends; is_word = front keyword (word_of op) e; is_data = w; is_brace = o; are_triples = g.triples;
-            is_end = subst (λ (z : List Lexeme). One mark g.ends marks.CloseBrace z) x c })
+          (record {
+            word_ends = n;
+            data_ends = m;
+            brace_ends = k;
+            triples_end = g.ends;
+            is_word = front keyword (word_of op) e;
+            is_data = w;
+            is_brace = o;
+            are_triples = g.triples;
+            is_end = subst (λ (z : List Lexeme). One mark g.ends marks.CloseBrace z) x c;
+          })
           (g.is ∙ ap (λ (z : List Statement). operation_says b op g.groups ++ z) y ∙ append-nil (operation_says b op g.groups))
       by (j, c, inr (i, s, u)) = more b (t ∷ n) j i op g.groups g.later out
           (record { word_ends = n; data_ends = m; brace_ends = k; triples_end = g.ends; is_word = front keyword (word_of op) e; is_data = w; is_brace = o; are_triples = g.triples; is_end = c }) s u g.is

@@ -78,14 +78,17 @@ module _ (b : Bindings) (t : Lexeme) (n : List Lexeme) where
       inr (group_end op out (subst (λ (z : List Statement). AtGroupEnd b op (t ∷ n) z) (sym is) (subst (λ (z : List Lexeme). AtGroupEnd b op z later) e r)))
   property_goes op subject s m ps later out e (go v w x its qs (empty o k) g) r is =
       let h = one_is mark t n w marks.Semicolon (subst (λ (z : List Lexeme). One mark z marks.Semicolon w) e o) in
-      inl (h.0, inr (record {
-        properties = qs;
-        ends = m;
-        later = later;
-        goes = subst (λ (z : List Lexeme). Goes IsNextProperty z qs m) (sym h.1) g;
-        rest = r;
-        is = is ∙ ap (λ (z : List Property). flat_map (property_says (say b op subject)) (z ++ flat_map (λ (qs : List Property). qs) qs) ++ later) k;
-      }))
+      inl (
+        h.0,
+        inr (record {
+          properties = qs;
+          ends = m;
+          later = later;
+          goes = subst (λ (z : List Lexeme). Goes IsNextProperty z qs m) (sym h.1) g;
+          rest = r;
+          is = is ∙ ap (λ (z : List Property). flat_map (property_says (say b op subject)) (z ++ flat_map (λ (qs : List Property). qs) qs) ++ later) k;
+        }),
+      )
   property_goes op subject s m ps later out e (go v w x its qs (one u p o i k) g) r is =
       let h = one_is mark t n u marks.Semicolon (subst (λ (z : List Lexeme). One mark z marks.Semicolon u) e o) in
       let saying = property_says (say b op subject) in
@@ -269,8 +272,14 @@ module _ (b : Bindings) (t : Lexeme) (n : List Lexeme) where
       by tag_is datatype e (typed m it w i k d) r is =
           let h = one_is mark t n m marks.Hats w in
           let at : AtDatatype b stem line text m out =
-          record { it = it; ends = e; later = l.later; is_name = i; rest = r;
-            is = is ∙ ap (λ (z : List ℕ). stated b stem (objects.Literal line text z datatype) ∷ l.later) k ∙ ap (λ (z : SpelledDatatype). stated b stem (objects.Literal line text [] z) ∷ l.later) d } in
+          record {
+            it = it;
+            ends = e;
+            later = l.later;
+            is_name = i;
+            rest = r;
+            is = is ∙ ap (λ (z : List ℕ). stated b stem (objects.Literal line text z datatype) ∷ l.later) k ∙ ap (λ (z : SpelledDatatype). stated b stem (objects.Literal line text [] z) ∷ l.later) d;
+          } in
           subst (λ (z : Option (List ℕ)). Moves b (text_step stem line text z (mark t)) n out) (sym (mark_no_tag t marks.Hats h.0))
           (subst (λ (z : Option Mark). Moves b (text_step stem line text None z) n out) (sym h.0) (on (spots.Hats stem line text) out m h.1 at))
 

@@ -50,9 +50,10 @@ module _ (theory : Theory) where
       All-append (Knows theory) (deleted_by o.operation o.said) (deleted qs) (one_deleted o.operation o.said (says_known k.statement o.said k.says)) (all_deleted m w qs r)
 
   pub means_known : (ts : List Statement) (update : ReadUpdate) → Means theory ts update → KnowsUpdate theory update
-  means_known ts update m =
-      (once_all (Knows theory) [] (inserted m.outcomes) update.inserts (all_inserted ts [] m.outcomes m.goes) m.inserts,
-       once_all (Knows theory) [] (deleted m.outcomes) update.deletes (all_deleted ts [] m.outcomes m.goes) m.deletes)
+  means_known ts update m = (
+    once_all (Knows theory) [] (inserted m.outcomes) update.inserts (all_inserted ts [] m.outcomes m.goes) m.inserts,
+    once_all (Knows theory) [] (deleted m.outcomes) update.deletes (all_deleted ts [] m.outcomes m.goes) m.deletes,
+  )
 
   pub text_known : (bytes : List ℕ) (r : Result ReadUpdate ReadRefusal) → ReadsText theory bytes r → IfOk r (KnowsUpdate theory)
   text_known bytes (Ok update) (ts, p, m) = means_known ts update m

@@ -26,7 +26,7 @@ not_nil b xs e = cc
 -- % and what stands behind it
 pub percent_answer : {X : Type 0} → (here bs : List ℕ) (b : ℕ) (o : Option X) (g : X → List ℕ) → here ≡ b ∷ bs → b ≡ 37
     → MatchOption o ((d e : ℕ) (m : List ℕ) → IsTrue (is_ascii_hexdigit d) → IsTrue (is_ascii_hexdigit e) → ¬ (bs ≡ d ∷ e ∷ m))
-        (λ x. (d e : ℕ) × IsTrue (is_ascii_hexdigit d) × IsTrue (is_ascii_hexdigit e) × (bs ≡ d ∷ e ∷ g x))
+    (λ x. (d e : ℕ) × IsTrue (is_ascii_hexdigit d) × IsTrue (is_ascii_hexdigit e) × (bs ≡ d ∷ e ∷ g x))
     → MatchOption o ((m : List ℕ) → ¬ IsMarked here m) (λ x. IsMarked here (g x))
 percent_answer here bs b None g is at n = never
   where
@@ -152,14 +152,17 @@ pub local_all : (raw end here : List ℕ) → BeginsLocal raw → IsLocalTo raw 
     → IsLocal raw (take (length raw - length end) raw) (drop (length raw - length end) raw)
 local_all raw end here b l n =
     let cut = cut_front raw (joined l.pieces) end (pieces_are classes.Local raw end l.pieces l.goes) in
-    inr (b, record {
-      pieces = l.pieces;
-      dots = l.dots;
-      behind = here;
-      goes = subst (λ (z : List ℕ). Goes (LocalPiece classes.Local) raw l.pieces z) cut.1 l.goes;
-      is = sym cut.0;
-      last = l.last;
-      dotted = sym cut.1 ∙ l.dotted;
-      each_dot = l.each_dot;
-      ends = n;
-    })
+    inr (
+      b,
+      record {
+        pieces = l.pieces;
+        dots = l.dots;
+        behind = here;
+        goes = subst (λ (z : List ℕ). Goes (LocalPiece classes.Local) raw l.pieces z) cut.1 l.goes;
+        is = sym cut.0;
+        last = l.last;
+        dotted = sym cut.1 ∙ l.dotted;
+        each_dot = l.each_dot;
+        ends = n;
+      },
+    )

@@ -31,7 +31,7 @@ use Rattle.update_read.specs.Outcomes.{IsNoText, HasBadToken, IsNoUpdate, Parses
 use Rattle.update_read.specs.Going.{Fits, IsAdvanced, IsFinished}
 use Rattle.update_read.specs.Reading.{ReadsToken}
 use Rattle.update_read.specs.Taking.{refusal_of}
-use Rattle.update_read.proofs.TextLaws.{text_is, ends_first}
+use Rattle.update_read.proofs.TextLaws.{text_is}
 use Rattle.update_read.proofs.LocalLaws.{pieces_are}
 use Rattle.update_read.proofs.NumberLaws.{number_front}
 

@@ -56,9 +56,11 @@ step_ahead : (b : Bindings) (o : List Statement) (step : Step) (n : List Lexeme)
 step_ahead b o steps.Stuck n out all m e = absurd m
 step_ahead b o (steps.On spot) n out all m e = (record { bindings = b; spot = spot; out = o }, refl, record { later = out; rest = m; is = e })
 step_ahead b o (steps.Bind named iri) n out all m e = (record { bindings = with_prefix b named iri; spot = spots.Start; out = o }, refl, record { later = out; rest = m; is = e })
-step_ahead b o (steps.Say stem it spot) n out all (later, r, is) e =
-    (record { bindings = b; spot = spot; out = o ++ stated b stem it ∷ [] }, refl,
-     record { later = later; rest = r; is = e ∙ ap (λ (z : List Statement). o ++ z) is ∙ sym (append_assoc o (stated b stem it ∷ []) later) })
+step_ahead b o (steps.Say stem it spot) n out all (later, r, is) e = (
+  record { bindings = b; spot = spot; out = o ++ stated b stem it ∷ [] },
+  refl,
+  record { later = later; rest = r; is = e ∙ ap (λ (z : List Statement). o ++ z) is ∙ sym (append_assoc o (stated b stem it ∷ []) later) },
+)
 
 -- what may come is gone through
 pub goes_through : (ts s : List Lexeme) (run : Run) (all : List Statement) → Ahead run (ts ++ s) all → (e : Run) × (runs (Some run) ts ≡ Some e) × Ahead e s all
@@ -132,22 +134,30 @@ there b spots.Start = ([], [], nothing b [] [] refl refl)
 there b spots.Prefix = (at 0 (tokens.Prefixed [] []) ∷ an_iri ∷ [], [], ([], [], an_iri ∷ [], [], (at 0 (tokens.Prefixed [] []), refl, refl), (an_iri, refl, refl), nothing (with_prefix b [] []) [] [] refl refl))
 there b (spots.Named named) = (an_iri ∷ [], [], ([], [], (an_iri, refl, refl), nothing (with_prefix b named []) [] [] refl refl))
 there b spots.Base = (an_iri ∷ [], [], ([], [], (an_iri, refl, refl), nothing b [] [] refl refl))
-there b (spots.Word op line) =
-    (at 0 (tokens.Word keywords.Data) ∷ at 0 (tokens.Sign marks.OpenBrace) ∷ closed, [],
-     (at 0 (tokens.Sign marks.OpenBrace) ∷ closed, (at 0 (tokens.Word keywords.Data), refl, refl), brace_there b op))
+there b (spots.Word op line) = (
+  at 0 (tokens.Word keywords.Data) ∷ at 0 (tokens.Sign marks.OpenBrace) ∷ closed,
+  [],
+  (at 0 (tokens.Sign marks.OpenBrace) ∷ closed, (at 0 (tokens.Word keywords.Data), refl, refl), brace_there b op),
+)
 there b (spots.Data op) = (at 0 (tokens.Sign marks.OpenBrace) ∷ closed, [], brace_there b op)
 there b (spots.Group op) = (closed, [], groups_there b op)
 there b (spots.Subject op subject) =
-    let stem : Stem = stem_of op subject verbs.IsA in
-    (at 0 (tokens.Word keywords.A) ∷ an_iri ∷ closed, stated b stem (objects.Named (Full 0 [])) ∷ [],
-     record { it = verbs.IsA; ends = an_iri ∷ closed; is_verb = (at 0 (tokens.Word keywords.A), refl, refl); rest = object_there b stem })
+    let stem : Stem = stem_of op subject verbs.IsA in (
+      at 0 (tokens.Word keywords.A) ∷ an_iri ∷ closed,
+      stated b stem (objects.Named (Full 0 [])) ∷ [],
+      record { it = verbs.IsA; ends = an_iri ∷ closed; is_verb = (at 0 (tokens.Word keywords.A), refl, refl); rest = object_there b stem },
+    )
 there b (spots.Verb stem) = (an_iri ∷ closed, stated b stem (objects.Named (Full 0 [])) ∷ [], object_there b stem)
-there b (spots.Text stem line text) =
-    (closed, stated b stem (objects.Literal line text [] datatypes.Untyped) ∷ [],
-     record { tagged = []; datatype = datatypes.Untyped; ends = closed; later = []; end = bare refl refl refl; rest = objects_there b stem; is = refl })
-there b (spots.Hats stem line text) =
-    (an_iri ∷ closed, stated b stem (objects.Literal line text [] (datatypes.Written (Full 0 []))) ∷ [],
-     record { it = Full 0 []; ends = closed; later = []; is_name = (an_iri, refl, refl); rest = objects_there b stem; is = refl })
+there b (spots.Text stem line text) = (
+  closed,
+  stated b stem (objects.Literal line text [] datatypes.Untyped) ∷ [],
+  record { tagged = []; datatype = datatypes.Untyped; ends = closed; later = []; end = bare refl refl refl; rest = objects_there b stem; is = refl },
+)
+there b (spots.Hats stem line text) = (
+  an_iri ∷ closed,
+  stated b stem (objects.Literal line text [] (datatypes.Written (Full 0 []))) ∷ [],
+  record { it = Full 0 []; ends = closed; later = []; is_name = (an_iri, refl, refl); rest = objects_there b stem; is = refl },
+)
 there b (spots.Object stem) = (closed, [], objects_there b stem)
 there b (spots.Semicolon op subject) = (closed, [], inr (property_there b op subject))
 there b spots.Done = ([], [], inl (refl, refl))
@@ -229,7 +239,7 @@ no_literal_end b stem line text later l = by l.tagged l.datatype l.ends l.end l.
     by tag_is datatype e (typed m it w i k d) r = no_one _ m _ w
 
 -- where nothing may come, an update has ended or none has begun
-ended : (b : Bindings) (spot : Spot) (later : List Statement) → Rest b spot [] later → ((spot ≡ spots.Start) ⊎ (spot ≡ spots.Done)) × (later ≡ [])
+pub ended : (b : Bindings) (spot : Spot) (later : List Statement) → Rest b spot [] later → ((spot ≡ spots.Start) ⊎ (spot ≡ spots.Done)) × (later ≡ [])
 ended b spots.Start later r = (inl refl, by r)
   where
     by : IsUpdate b [] later → later ≡ []

@@ -82,16 +82,16 @@ start_word t (Some keywords.Other) op l e f = cc
 start_word t None op l e f = cc
 
 no_prefix : (o : Option (List ℕ)) → IsNoWord (spot_after (prefix_step o))
-no_prefix  (Some x) op l e = cc
-no_prefix  None op l e = cc
+no_prefix (Some x) op l e = cc
+no_prefix None op l e = cc
 
 no_iri : (n : List ℕ) (o : Option (List ℕ)) → IsNoWord (spot_after (iri_step n o))
 no_iri n (Some x) op l e = cc
 no_iri n None op l e = cc
 
 no_base : (o : Option (List ℕ)) → IsNoWord (spot_after (base_step o))
-no_base  (Some x) op l e = cc
-no_base  None op l e = cc
+no_base (Some x) op l e = cc
+no_base None op l e = cc
 
 no_data : (p : Operation) (o : Option Keyword) → IsNoWord (spot_after (data_step p o))
 no_data p (Some keywords.Prefix) op l e = cc
@@ -118,15 +118,15 @@ no_open p (Some marks.Close) op l e = cc
 no_open p None op l e = cc
 
 no_close : (o : Option Mark) → IsNoWord (spot_after (close_step o))
-no_close  (Some marks.Dot) op l e = cc
-no_close  (Some marks.Comma) op l e = cc
-no_close  (Some marks.Semicolon) op l e = cc
-no_close  (Some marks.OpenBrace) op l e = cc
-no_close  (Some marks.CloseBrace) op l e = cc
-no_close  (Some marks.Hats) op l e = cc
-no_close  (Some marks.Open) op l e = cc
-no_close  (Some marks.Close) op l e = cc
-no_close  None op l e = cc
+no_close (Some marks.Dot) op l e = cc
+no_close (Some marks.Comma) op l e = cc
+no_close (Some marks.Semicolon) op l e = cc
+no_close (Some marks.OpenBrace) op l e = cc
+no_close (Some marks.CloseBrace) op l e = cc
+no_close (Some marks.Hats) op l e = cc
+no_close (Some marks.Open) op l e = cc
+no_close (Some marks.Close) op l e = cc
+no_close None op l e = cc
 
 no_subject : (p : Operation) (s : SpelledName) (o : Option SpelledVerb) → IsNoWord (spot_after (subject_step p s o))
 no_subject p s (Some x) op l e = cc
@@ -163,15 +163,15 @@ no_behind p s (Some marks.Close) op l e = cc
 no_behind p s None op l e = cc
 
 no_done : (o : Option Mark) → IsNoWord (spot_after (done_step o))
-no_done  (Some marks.Dot) op l e = cc
-no_done  (Some marks.Comma) op l e = cc
-no_done  (Some marks.Semicolon) op l e = cc
-no_done  (Some marks.OpenBrace) op l e = cc
-no_done  (Some marks.CloseBrace) op l e = cc
-no_done  (Some marks.Hats) op l e = cc
-no_done  (Some marks.Open) op l e = cc
-no_done  (Some marks.Close) op l e = cc
-no_done  None op l e = cc
+no_done (Some marks.Dot) op l e = cc
+no_done (Some marks.Comma) op l e = cc
+no_done (Some marks.Semicolon) op l e = cc
+no_done (Some marks.OpenBrace) op l e = cc
+no_done (Some marks.CloseBrace) op l e = cc
+no_done (Some marks.Hats) op l e = cc
+no_done (Some marks.Open) op l e = cc
+no_done (Some marks.Close) op l e = cc
+no_done None op l e = cc
 
 no_sign : (m : Stem) (n : ℕ) (x : List ℕ) (o : Option Mark) → IsNoWord (spot_after (text_step m n x None o))
 no_sign m n x (Some marks.Dot) op l e = cc
@@ -267,8 +267,8 @@ pub ends_with : (ts : List Lexeme) (op : Operation) (l : ℕ) (b : Bindings) (ou
 ends_with ts op l b out g = ⊎_elim
     (λ (n, same). absurd (no_start op l (ap (λ (x : Run). x.spot) same)))
     (λ (before, u, p, is, run, step).
-     let word = from_word p.spot u op l (applied_spot p.bindings p.out (step_of p.spot u) (run_of (spots.Word op l) b out) step) in
-     (before, op, is ∙ ap (λ (z : Lexeme). before ++ z ∷ []) word))
+    let word = from_word p.spot u op l (applied_spot p.bindings p.out (step_of p.spot u) (run_of (spots.Word op l) b out) step) in
+    (before, op, is ∙ ap (λ (z : Lexeme). before ++ z ∷ []) word))
     (last_of ts start (run_of (spots.Word op l) b out) g)
   where
     no_start : (op : Operation) (l : ℕ) → ¬ (spots.Start ≡ spots.Word op l)

@@ -34,7 +34,7 @@ module _ (quote : ℕ) (kind : Quotes) where
   in_text_one s m n o p (pair c w g h) (single b i x y e f) = absurd (x (heads b 92 n (c ∷ m) (sym e ∙ g)))
   in_text_one s m n o p (pair b y e f) (pair c w g h) = (cc, cc)
 
-  ends_first : (k : Quotes) (s rest : List ℕ) → EndsAt quote k s rest → (more : List ℕ) × (s ≡ quote ∷ more)
+  pub ends_first : (k : Quotes) (s rest : List ℕ) → EndsAt quote k s rest → (more : List ℕ) × (s ≡ quote ∷ more)
   ends_first quotes.One s rest e = (rest, e)
   ends_first quotes.Three s rest e = (quote ∷ quote ∷ rest, e)
 

@@ -1,5 +1,5 @@
 -- What the reader is between two tokens, and at the end of all. No public contract names it.
-use Rattle.std.specs.Prelude.{◌≡◌, ◌⊎◌, ℕ, List, [], ◌∷◌, ◌++◌, Option, Some, None, Result, Ok, Err}
+use Rattle.std.specs.Prelude.{◌≡◌, ◌⊎◌, ℕ, List, [], ◌∷◌, ◌++◌, Bool, true, false, Option, Some, None, Result, Ok, Err}
 use Rattle.dl_base.specs.Ontologies.{Theory}
 use Rattle.dl_base.specs.declared.memory.OutOfMemory.{OutOfMemory}
 use Rattle.dl_text.specs.Prefixes.{Bindings}
@@ -42,6 +42,12 @@ kind_in spot token = kinds.Syntax
 abbrev pub refused_at : Spot → ℕ → ReadKind → ℕ × ReadKind
 refused_at (spots.Word operation at) line kind = (at, kinds.OtherOperation)
 refused_at spot line kind = (line, kind)
+
+-- an update may end behind the spot
+abbrev pub may_end : Spot → Bool
+may_end spots.Start = true
+may_end spots.Done = true
+may_end spot = false
 
 abbrev pub run_of : Spot → Bindings → List Statement → Run
 run_of spot b out = record { bindings = b; spot = spot; out = out }

@@ -69,11 +69,7 @@ pub fn token_of(
             Ok(Some(Token::Number(pool.name(text)?)))
         }
         Piece::Iri(inner) => Ok(Some(Token::Iri(pool.read_iri(inner, true)?))),
-        Piece::Text(inner) => Ok(Some(Token::Text(read_string(
-            alloc,
-            inner,
-            StringRule::Full,
-        )?))),
+        Piece::Text(inner) => Ok(Some(Token::Text(read_string(alloc, inner, StringRule::Full)?))),
         Piece::Tag(tag) => Ok(Some(Token::Tag(pool.name(tag)?))),
         Piece::Word(word) => Ok(Some(Token::Word(keyword_of(word)))),
         Piece::Prefixed(prefix, local) => Ok(Some(Token::Prefixed(

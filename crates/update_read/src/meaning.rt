@@ -109,11 +109,13 @@ pub fn object_line(object: &SpelledObject) -> u64
 {
     match object {
         SpelledObject::Named(SpelledName::Full { line, iri: _ }) => *line,
-        SpelledObject::Named(SpelledName::Short {
-            line,
-            prefix: _,
-            local: _,
-        }) => *line,
+        SpelledObject::Named(
+            SpelledName::Short {
+                line,
+                prefix: _,
+                local: _,
+            },
+        ) => *line,
         SpelledObject::Literal {
             line,
             text: _,

@@ -4,7 +4,7 @@ ghost use Rattle.dl_base.specs.Ontologies as ontologies;
 ghost use Rattle.update_read.specs.Grammar as grammar;
 ghost use Rattle.update_read.specs.Tokens as lexemes;
 ghost use Rattle.update_read.specs.Taking.{Gathers};
-ghost use Rattle.update_read.specs.Going.{IsRead, Fits, IsTold, IsFinished};
+ghost use Rattle.update_read.specs.Going.{may_end, IsRead, Fits, IsTold, IsFinished};
 ghost use Rattle.update_read.specs.Outcomes.{ReadsText, ReadsUpdate, KnowsUpdate};
 
 use crate::cutting::cut;
@@ -44,16 +44,31 @@ fn told(alloc: Global, gathered: Gathered) -> Result<ReadUpdate, ReadRefusal>
     }
 }
 
-/// The update at the end of its tokens, behind a spot.
-fn ended(alloc: Global, spot: Spot, gathered: Gathered, end: u64) -> Result<ReadUpdate, ReadRefusal>
-    ensures { (theory : ontologies.Theory) (bindings : Bindings) (all : List lexemes.Lexeme) → IsRead theory spot bindings gathered all → IsFinished theory all end result }
+/// Whether an update may end behind the spot.
+fn may_end(spot: &Spot) -> bool
+    ensures { result ≡ may_end spot.now }
 {
-    let (line, kind) = refused_at(&spot, end, ReadKind::Syntax);
     match spot {
-        Spot::Start => told(alloc, gathered),
-        Spot::Done => told(alloc, gathered),
-        _ => Err(ReadRefusal::Refused { line, kind }),
+        Spot::Start => true,
+        Spot::Done => true,
+        _ => false,
     }
+}
+
+/// The update at the end of its tokens, behind a spot.
+fn ended(
+    alloc: Global,
+    spot: &Spot,
+    gathered: Gathered,
+    end: u64,
+) -> Result<ReadUpdate, ReadRefusal>
+    ensures { (theory : ontologies.Theory) (bindings : Bindings) (all : List lexemes.Lexeme) → IsRead theory spot.now bindings gathered all → IsFinished theory all end result }
+{
+    if may_end(spot) {
+        return told(alloc, gathered);
+    }
+    let (line, kind) = refused_at(spot, end, ReadKind::Syntax);
+    Err(ReadRefusal::Refused { line, kind })
 }
 
 /// The update at the end of its tokens.
@@ -61,7 +76,7 @@ fn finish(alloc: Global, progress: Progress, end: u64) -> Result<ReadUpdate, Rea
     ensures { (theory : ontologies.Theory) (all : List lexemes.Lexeme) → Fits theory progress all → IsFinished theory all end result }
 {
     match progress {
-        Progress::Going(spot, _, gathered) => ended(alloc, spot, gathered, end),
+        Progress::Going(spot, _, gathered) => ended(alloc, &spot, gathered, end),
         Progress::Stopped { line, kind } => Err(ReadRefusal::Refused { line, kind }),
     }
 }

@@ -36,7 +36,10 @@ pub enum Step {
     Stuck,
     On(Spot),
     /// It ends a line of the prologue.
-    Bind { prefix: Name, iri: Name },
+    Bind {
+        prefix: Name,
+        iri: Name,
+    },
     /// It ends a triple or shows that one has ended.
     Say {
         stem: Stem,

@@ -253,11 +253,7 @@ pub fn step_of(alloc: Global, spot: Spot, line: u64, token: &Token) -> Result<St
         Spot::Base => Ok(base_step(token.full_iri(alloc)?)),
         Spot::Word(operation, _) => Ok(data_step(operation, token.keyword())),
         Spot::Data(operation) => Ok(open_step(operation, token.mark())),
-        Spot::Group(operation) => Ok(group_step(
-            operation,
-            token.name(alloc, line)?,
-            token.mark(),
-        )),
+        Spot::Group(operation) => Ok(group_step(operation, token.name(alloc, line)?, token.mark())),
         Spot::Subject(operation, subject) => Ok(subject_step(
             operation,
             subject,

@@ -6,8 +6,15 @@ use std::alloc::Global;
 /// A name as an update spells it, with the line of its token.
 #[derive(Debug, Drop)]
 pub enum SpelledName {
-    Full { line: u64, iri: Name },
-    Short { line: u64, prefix: Name, local: Name },
+    Full {
+        line: u64,
+        iri: Name,
+    },
+    Short {
+        line: u64,
+        prefix: Name,
+        local: Name,
+    },
 }
 
 /// A verb: a name, or `a`.

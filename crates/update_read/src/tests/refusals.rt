@@ -9,7 +9,10 @@ fn a_bad_token_is_refused_first(rt: HostRuntime) -> Result<(), Fail> {
     for (text, want) in [
         (b"SELECT\n?x \xff".as_slice(), "BadUtf8 2"),
         (b"\xEF\xBB\xBF".as_slice(), "Syntax 1"),
-        (b"DELETE WHERE {\n?s ?p ?o FILTER(?o > 3) }".as_slice(), "Syntax 2"),
+        (
+            b"DELETE WHERE {\n?s ?p ?o FILTER(?o > 3) }".as_slice(),
+            "Syntax 2",
+        ),
         (b"INSERT DATA { <a> }".as_slice(), "BadIri 1"),
         (b"\n<http://a\nb>".as_slice(), "BadIri 2"),
         (b"\n<http://a\\x".as_slice(), "Syntax 2"),
@@ -53,7 +56,10 @@ fn the_first_token_out_of_place_is_refused(rt: HostRuntime) -> Result<(), Fail> 
         ("\nDELETE\n?x", "OtherOperation 2"),
         ("INSERT", "OtherOperation 1"),
         ("INSERT DATA\n", "Syntax 2"),
-        ("INSERT DATA {\nGRAPH <http://u.example/g> { } }", "OtherOperation 2"),
+        (
+            "INSERT DATA {\nGRAPH <http://u.example/g> { } }",
+            "OtherOperation 2",
+        ),
         ("INSERT DATA { WITH", "Syntax 1"),
         ("INSERT DATA { A", "Syntax 1"),
         ("INSERT DATA { <a:a>\nA <a:b> }", "Syntax 2"),

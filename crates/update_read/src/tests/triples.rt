@@ -22,7 +22,9 @@ fn the_first_triple_without_a_fact_is_refused(rt: HostRuntime) -> Result<(), Fai
         (":teaches :a\\~b , :x\\%", "+2(a,a~b)+2(a,x%)"),
         ("a :Dean . ?x a :Prof", "Variable 1"),
     ] {
-        let text = format!(in alloc; "PREFIX : <http://u.example/> PREFIX x: <http://www.w3.org/2001/XMLSchema#> INSERT DATA {{ :a {triples} }}")?;
+        let text = format!(in alloc;
+            "PREFIX : <http://u.example/> PREFIX x: <http://www.w3.org/2001/XMLSchema#> INSERT DATA {{ :a {triples} }}"
+        )?;
         let answer = told(alloc, &ontology, text.as_bytes())?;
         assert_eq!(rt; answer.as_slice(), want.as_bytes());
     }
