@@ -30,7 +30,7 @@ impl Prefixes {
     ghost use Rattle.dl_text.specs.Prefixes.{iri_of, with_prefix, standard_prefixes, Resolves};
 
     /// No prefixes.
-    fn none(alloc: Global) -> Prefixes
+    pub fn none(alloc: Global) -> Prefixes
         ensures { result ≡ [] }
     {
         Prefixes {

@@ -1,12 +1,12 @@
 -- Facts of triples are known.
-use Rattle.std.proofs.Common.{◌≡◌, ℕ, Bool, true, false, cond, List, Some, None, Ok, Err, refl, sym, ◌∙◌, ap, subst}
+use Rattle.std.proofs.Common.{◌≡◌, ℕ, Bool, true, false, cond, List, Some, None, Ok, refl, subst}
 use Rattle.std.specs.Prelude.{Option, Result}
 use Rattle.std.specs.Str.{bytes_eq}
 use Rattle.dl_base.specs.declared.statements.Fact.TheVariants as fact
 use Rattle.dl_base.specs.declared.terms.Kind.{Kind}
 use Rattle.dl_base.specs.declared.terms.Kind.TheVariants as kind
 use Rattle.dl_base.specs.declared.terms.Term.{Term}
-use Rattle.dl_base.specs.Ontologies.{Theory, Knows, IsTerm}
+use Rattle.dl_base.specs.Ontologies.{Theory}
 use Rattle.triples.specs.Meaning.{term_of, is_skipped, membership, class_said, link_said, said_of, KnowsSaid}
 use Rattle.triples.specs.Names.{rdf_type}
 use Rattle.triples.specs.declared.meaning.Object.{Object}

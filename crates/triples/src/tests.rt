@@ -15,20 +15,14 @@ fn school(alloc: Global) -> Result<Ontology, Fail> {
     ] {
         terms.push((Name::of(alloc, name.as_bytes())?, kind))?;
     }
-    match Ontology::of(alloc, terms, Vec::new(alloc)) {
-        Ok(ontology) => Ok(ontology),
-        Err(_) => Err(Fail),
-    }
+    Ok(Ontology::of(alloc, terms, Vec::new(alloc))?)
 }
 
 /// An IRI, or behind a `"` the text of a literal without datatype and tag.
 fn object(alloc: Global, written: &str) -> Result<Object, Fail> {
     match written.strip_prefix("\"") {
         None => Ok(Object::Iri(Name::of(alloc, written.as_bytes())?)),
-        Some(text) => match canonical_value(alloc, text.as_bytes(), b"", b"") {
-            Ok(value) => Ok(Object::Literal(value)),
-            Err(_) => Err(Fail),
-        },
+        Some(text) => Ok(Object::Literal(canonical_value(alloc, text.as_bytes(), b"", b"")?)),
     }
 }
 

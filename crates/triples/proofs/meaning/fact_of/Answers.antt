@@ -1,4 +1,4 @@
-use Rattle.std.proofs.Common.{◌≡◌, ℕ, List, Ok, Err, sym, ◌∙◌, refl, subst, IfOk}
+use Rattle.std.proofs.Common.{◌≡◌, Ok, Err, sym, refl, subst, IfOk}
 use Rattle.std.specs.Prelude.{Result, Option}
 use Rattle.dl_base.specs.declared.terms.Kind.{Kind}
 use Rattle.dl_base.specs.declared.terms.Term.{Term}

@@ -1,4 +1,4 @@
-use Rattle.std.proofs.Common.{◌≡◌, ℕ, List, Some, None, sym, ◌∙◌, refl}
+use Rattle.std.proofs.Common.{◌≡◌, ℕ, List, Some, None, sym}
 use Rattle.std.specs.Prelude.{Option, MatchOption, slice_get}
 use Rattle.dl_base.specs.declared.terms.Kind.{Kind}
 use Rattle.dl_base.specs.declared.terms.Term.{Term}

@@ -1,0 +1,5 @@
+pub mod CharLaws
+pub mod DotLaws
+pub mod NameLaws
+pub mod TagLaws
+pub mod ExactLaws

@@ -1,0 +1,14 @@
+pub mod TextLaws
+pub mod LocalLaws
+pub mod NumberLaws
+pub mod PieceLaws
+pub mod Rests
+pub mod ViewLaws
+pub mod MeaningLaws
+pub mod ForthLaws
+pub mod BackLaws
+pub mod RunLaws
+pub mod StopLaws
+pub mod FinishLaws
+pub mod ParseLaws
+pub mod KnownLaws

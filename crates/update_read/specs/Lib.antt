@@ -1,0 +1,13 @@
+pub mod Shapes
+pub mod Cutting
+pub mod Tokens
+pub mod Grammar
+pub mod Stopping
+pub mod Meaning
+pub mod Outcomes
+pub mod LocalRuns
+pub mod Names
+pub mod Reading
+pub mod Taking
+pub mod Running
+pub mod Going
