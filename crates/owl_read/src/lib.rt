@@ -1,11 +1,8 @@
-//! Ontologies read from their text: so far those in the first form, a few fixed lines about named classes.
+//! Ontologies in OWL 2 functional-style syntax, as far as DL-Lite_A goes: the terms, axioms and assertions of a document.
 #![tactic(auto)]
 
-mod lines;
-mod plain_names;
-mod reading;
-mod terms;
-
-pub use lines::one_name;
-pub use plain_names::{is_plain_name, name_before};
-pub use reading::{ReadOntology, read_ontology};
+mod builtins;
+mod documents;
+mod forms;
+mod outcomes;
+mod sides;

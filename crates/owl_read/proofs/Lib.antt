@@ -1,3 +1,0 @@
-pub mod PlainLaws
-pub mod GatheringLaws
-pub mod AnswerLaws

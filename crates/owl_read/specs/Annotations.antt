@@ -1,0 +1,102 @@
+-- Annotations, which give terms and nothing else.
+use Rattle.std.specs.Prelude.{ℕ, List, [], ◌∷◌, codes, Bool, true, false, if◌then◌else◌, Result, Ok, Err}
+use Rattle.std.specs.Str.{bytes_eq}
+use Rattle.dl_base.specs.declared.terms.Kind.TheVariants as kinds
+use Rattle.dl_text.specs.declared.kinds.ReadKind.TheVariants.{Syntax}
+use Rattle.owl_syntax.specs.Trees.{Forest, none, leaf, word, group, iri, blank, digits, prefixed, literal}
+use Rattle.owl_read.specs.Builtins.{is_fixed_note}
+use Rattle.owl_read.specs.Items.{Item, Single, Word, Group, items_of, line_of}
+use Rattle.owl_read.specs.Literals.{literal_at}
+use Rattle.owl_read.specs.Outcomes.{Refusal, ◌>>=◌}
+use Rattle.owl_read.specs.Places.{iri_at}
+use Rattle.owl_read.specs.Scopes.{Naming, name_at, term_named}
+
+unfoldable pub note_named : Naming → ℕ → List ℕ → Result Naming Refusal
+note_named s line name = if is_fixed_note name then Ok s else (term_named kinds.Note s line name >>= λ x. Ok x.0)
+
+-- an annotation property, by its name
+unfoldable pub note_at : Naming → Item → Result Naming Refusal
+note_at s item = do
+  name ← name_at Syntax s item
+  note_named name.0 (line_of item) name.1
+
+-- what is annotated: an IRI or a blank node
+unfoldable pub subject_at : Naming → Item → Result Naming Refusal
+subject_at s (Single (blank line label)) = Ok s
+subject_at s item = iri_at s item >>= λ x. Ok x.0
+
+-- the value of an annotation: an IRI, a blank node or a literal
+unfoldable pub annotated_at : Naming → Item → Result Naming Refusal
+annotated_at s (Single (blank line label)) = Ok s
+annotated_at s (Single (literal line text tag datatype)) = literal_at s (Single (literal line text tag datatype)) >>= λ x. Ok x.0
+annotated_at s item = iri_at s item >>= λ x. Ok x.0
+
+abbrev pub is_annotation : List ℕ → Bool
+is_annotation text = bytes_eq text (codes "Annotation")
+
+-- what stands behind the annotations in front
+abbrev pub behind : List Item → List Item
+behind [] = []
+behind (Word line text args ∷ items) = if is_annotation text then behind items else Word line text args ∷ items
+behind (Single it ∷ items) = Single it ∷ items
+behind (Group line args ∷ items) = Group line args ∷ items
+
+-- Annotation( annotations P value ), with what stands behind its own annotations, which within reads
+unfoldable pub annotation_of : (Naming → Result Naming Refusal) → Naming → ℕ → List Item → Result Naming Refusal
+annotation_of within s line (property ∷ value ∷ []) = do
+  t ← within s
+  u ← note_at t property
+  annotated_at u value
+annotation_of within s line items = Err (line, Syntax)
+
+-- one node more behind annotations, if nothing else stood before it
+abbrev pub annotation_with : (Naming → Result Naming Refusal) → Naming × Bool → ℕ → List ℕ → List Item → Result (Naming × Bool) Refusal
+annotation_with within (s, false) line text items = Ok (s, false)
+annotation_with within (s, true) line text items = if is_annotation text then (annotation_of within s line (behind items) >>= λ t. Ok (t, true)) else Ok (s, false)
+
+-- the annotations in front, and whether nothing else stands there
+unfoldable pub annotations_in : Naming → Forest → Result (Naming × Bool) Refusal
+annotations_in s none = Ok (s, true)
+annotations_in s (leaf before it) = annotations_in s before >>= λ x. Ok (x.0, false)
+annotations_in s (word before line text args) = annotations_in s before >>= λ x. annotation_with (λ u. annotations_in u args >>= λ y. Ok y.0) x line text (items_of args)
+annotations_in s (group before line args) = annotations_in s before >>= λ x. Ok (x.0, false)
+
+-- the annotations in front of the nodes
+unfoldable pub annotations_at : Naming → List Item → Result Naming Refusal
+annotations_at s [] = Ok s
+annotations_at s (Word line text args ∷ items) =
+    if is_annotation text then (annotation_of (λ u. annotations_in u args >>= λ y. Ok y.0) s line (behind (items_of args)) >>= λ t. annotations_at t items) else Ok s
+annotations_at s (Single it ∷ items) = Ok s
+annotations_at s (Group line args ∷ items) = Ok s
+
+abbrev pub one_of : Naming → ℕ → List Item → List Item → Result (Naming × Item) Refusal
+one_of s line items (one ∷ []) = annotations_at s items >>= λ t. Ok (t, one)
+one_of s line items rest = Err (line, Syntax)
+
+-- the one node behind the annotations, which are read; another count is refused before
+unfoldable pub one_at : Naming → ℕ → List Item → Result (Naming × Item) Refusal
+one_at s line items = one_of s line items (behind items)
+
+abbrev pub two_of : Naming → ℕ → List Item → List Item → Result (Naming × (Item × Item)) Refusal
+two_of s line items (one ∷ two ∷ []) = annotations_at s items >>= λ t. Ok (t, (one, two))
+two_of s line items rest = Err (line, Syntax)
+
+-- the two nodes behind the annotations
+unfoldable pub two_at : Naming → ℕ → List Item → Result (Naming × (Item × Item)) Refusal
+two_at s line items = two_of s line items (behind items)
+
+abbrev pub three_of : Naming → ℕ → List Item → List Item → Result (Naming × (Item × Item × Item)) Refusal
+three_of s line items (one ∷ two ∷ three ∷ []) = annotations_at s items >>= λ t. Ok (t, (one, two, three))
+three_of s line items rest = Err (line, Syntax)
+
+-- the three nodes behind the annotations
+unfoldable pub three_at : Naming → ℕ → List Item → Result (Naming × (Item × Item × Item)) Refusal
+three_at s line items = three_of s line items (behind items)
+
+abbrev pub some_of : Naming → ℕ → List Item → List Item → Result (Naming × List Item) Refusal
+some_of s line items (one ∷ two ∷ rest) = annotations_at s items >>= λ t. Ok (t, one ∷ two ∷ rest)
+some_of s line items rest = Err (line, Syntax)
+
+-- the nodes behind the annotations, which are two or more
+unfoldable pub some_at : Naming → ℕ → List Item → Result (Naming × List Item) Refusal
+some_at s line items = some_of s line items (behind items)

@@ -1,0 +1,136 @@
+-- Class expressions at their places.
+use Rattle.std.specs.Prelude.{ℕ, List, [], ◌∷◌, ◌++◌, codes, length, nat_le, if◌then◌else◌, Result, Ok, Err}
+use Rattle.std.specs.Str.{bytes_eq}
+use Rattle.dl_base.specs.declared.terms.Basic.{Basic}
+use Rattle.dl_base.specs.declared.terms.Basic.TheVariants as basic
+use Rattle.dl_base.specs.declared.terms.Kind.TheVariants as kinds
+use Rattle.dl_base.specs.declared.terms.RoleSide.{RoleSide}
+use Rattle.dl_base.specs.declared.terms.Term.{Term}
+use Rattle.dl_text.specs.declared.kinds.ReadKind.TheVariants.{NotDlLite, Syntax}
+use Rattle.owl_syntax.specs.Trees.{Forest, none, leaf, word, group}
+use Rattle.owl_read.specs.declared.builtins.Builtin.TheVariants as builtins
+use Rattle.owl_read.specs.declared.sides.ClassName.{ClassName}
+use Rattle.owl_read.specs.declared.sides.ClassName.TheVariants as classes
+use Rattle.owl_read.specs.declared.sides.Concept.{Concept}
+use Rattle.owl_read.specs.declared.sides.Concept.TheVariants as concepts
+use Rattle.owl_read.specs.declared.sides.Part.{Part}
+use Rattle.owl_read.specs.declared.sides.Part.TheVariants.{Within, Related, Outside, Empty}
+use Rattle.owl_read.specs.declared.sides.Side.{Side}
+use Rattle.owl_read.specs.declared.sides.Side.TheVariants as sides
+use Rattle.owl_read.specs.Builtins.{iri_of, is_builtin}
+use Rattle.owl_read.specs.Items.{Item, Single, Word, Group, items_of, line_of}
+use Rattle.owl_read.specs.Outcomes.{Refusal, ◌>>=◌}
+use Rattle.owl_read.specs.Places.{role_at, attr_at}
+use Rattle.owl_read.specs.Scopes.{Naming, name_at, is_name, term_named}
+
+-- the class of this name: owl:Thing, owl:Nothing or a term
+unfoldable pub class_named : Naming → ℕ → List ℕ → Result (Naming × ClassName) Refusal
+class_named s line name =
+    if is_builtin builtins.Thing name then Ok (s, classes.Thing)
+    else (if is_builtin builtins.Nothing name then Ok (s, classes.Nothing)
+    else (term_named kinds.Class s line name >>= λ x. Ok (x.0, classes.Named x.1)))
+
+-- a class, by its name
+unfoldable pub class_at : Naming → Item → Result (Naming × ClassName) Refusal
+class_at s item = do
+  name ← name_at Syntax s item
+  class_named name.0 (line_of item) name.1
+
+-- ObjectSomeValuesFrom( Q owl:Thing )
+unfoldable pub some_partner : Naming → ℕ → List Item → Result (Naming × Basic) Refusal
+some_partner s line (role ∷ filler ∷ []) =
+    if is_name (iri_of builtins.Thing) s filler then (role_at s role >>= λ x. Ok (x.0, basic.Exists x.1)) else Err (line, NotDlLite)
+some_partner s line items = Err (line, Syntax)
+
+-- DataSomeValuesFrom( U rdfs:Literal )
+unfoldable pub some_value : Naming → ℕ → List Item → Result (Naming × Basic) Refusal
+some_value s line (attr ∷ filler ∷ []) =
+    if is_name (iri_of builtins.Literal) s filler then (attr_at s attr >>= λ x. Ok (x.0, basic.Domain x.1)) else Err (line, NotDlLite)
+some_value s line items = Err (line, Syntax)
+
+-- an expression that is a basic concept and no name
+unfoldable pub existential_at : Naming → ℕ → List ℕ → List Item → Result (Naming × Basic) Refusal
+existential_at s line text items =
+    if bytes_eq text (codes "ObjectSomeValuesFrom") then some_partner s line items
+    else (if bytes_eq text (codes "DataSomeValuesFrom") then some_value s line items else Err (line, NotDlLite))
+
+abbrev pub concept_of : ClassName → Concept
+concept_of classes.Thing = concepts.Thing
+concept_of classes.Nothing = concepts.Nothing
+concept_of (classes.Named c) = concepts.Basic (basic.Class c)
+
+-- owl:Thing, owl:Nothing or a basic concept
+unfoldable pub concept_at : Naming → Item → Result (Naming × Concept) Refusal
+concept_at s (Word line text args) = existential_at s line text (items_of args) >>= λ x. Ok (x.0, concepts.Basic x.1)
+concept_at s (Single it) = class_at s (Single it) >>= λ x. Ok (x.0, concept_of x.1)
+concept_at s (Group line args) = Err (line, Syntax)
+
+abbrev pub basic_of : Naming → ℕ → Concept → Result (Naming × Basic) Refusal
+basic_of s line (concepts.Basic b) = Ok (s, b)
+basic_of s line concepts.Thing = Err (line, NotDlLite)
+basic_of s line concepts.Nothing = Err (line, NotDlLite)
+
+-- a basic concept
+unfoldable pub basic_at : Naming → Item → Result (Naming × Basic) Refusal
+basic_at s item = concept_at s item >>= λ x. basic_of x.0 (line_of item) x.1
+
+abbrev pub left_of : Naming → ℕ → Concept → Result (Naming × Side) Refusal
+left_of s line (concepts.Basic b) = Ok (s, sides.Concept b)
+left_of s line concepts.Thing = Err (line, NotDlLite)
+left_of s line concepts.Nothing = Ok (s, sides.Nothing)
+
+-- a left side: a basic concept or owl:Nothing
+unfoldable pub left_at : Naming → Item → Result (Naming × Side) Refusal
+left_at s item = concept_at s item >>= λ x. left_of x.0 (line_of item) x.1
+
+-- the part of a right side that 'some Q in the concept' is: with owl:Thing some Q, with owl:Nothing nothing
+abbrev pub related : RoleSide → Concept → Part
+related q (concepts.Basic b) = Related q b
+related q concepts.Thing = Within (basic.Exists q)
+related q concepts.Nothing = Empty
+
+-- ObjectSomeValuesFrom( Q B )
+unfoldable pub partner_in : Naming → ℕ → List Item → Result (Naming × List Part) Refusal
+partner_in s line (role ∷ filler ∷ []) = do
+  q ← role_at s role
+  c ← concept_at q.0 filler
+  Ok (c.0, related q.1 c.1 ∷ [])
+partner_in s line items = Err (line, Syntax)
+
+-- ObjectComplementOf( B )
+unfoldable pub complement_of : Naming → ℕ → List Item → Result (Naming × List Part) Refusal
+complement_of s line (item ∷ []) = basic_at s item >>= λ x. Ok (x.0, Outside x.1 ∷ [])
+complement_of s line items = Err (line, Syntax)
+
+-- the parts of a right side that is owl:Thing, owl:Nothing or a basic concept
+abbrev pub parts_of : Concept → List Part
+parts_of concepts.Thing = []
+parts_of concepts.Nothing = Empty ∷ []
+parts_of (concepts.Basic b) = Within b ∷ []
+
+-- the parts of the right side at the item, from left to right; within reads those of an intersection's members
+unfoldable pub right_with : (Naming → Result (Naming × List Part) Refusal) → Naming → Item → Result (Naming × List Part) Refusal
+right_with within s (Word line text args) =
+    if bytes_eq text (codes "ObjectIntersectionOf") then (if nat_le 2 (length (items_of args)) then within s else Err (line, Syntax))
+    else (if bytes_eq text (codes "ObjectComplementOf") then complement_of s line (items_of args)
+    else (if bytes_eq text (codes "ObjectSomeValuesFrom") then partner_in s line (items_of args)
+    else (concept_at s (Word line text args) >>= λ x. Ok (x.0, parts_of x.1))))
+right_with within s (Single it) = concept_at s (Single it) >>= λ x. Ok (x.0, parts_of x.1)
+right_with within s (Group line args) = concept_at s (Group line args) >>= λ x. Ok (x.0, parts_of x.1)
+
+-- behind what was found, the parts of one right side more
+abbrev pub joined_by : {S : Type 0} → (S → Result (S × List Part) Refusal) → S × List Part → Result (S × List Part) Refusal
+joined_by read found = read found.0 >>= λ x. Ok (x.0, found.1 ++ x.1)
+
+-- the parts of right sides beside each other
+unfoldable pub rights_in : Naming → Forest → Result (Naming × List Part) Refusal
+rights_in s none = Ok (s, [])
+rights_in s (leaf before it) = rights_in s before >>= λ x. joined_by (λ t. right_with (λ u. Ok (u, [])) t (Single it)) x
+rights_in s (word before line text args) = rights_in s before >>= λ x. joined_by (λ t. right_with (λ u. rights_in u args) t (Word line text args)) x
+rights_in s (group before line args) = rights_in s before >>= λ x. joined_by (λ t. right_with (λ u. rights_in u args) t (Group line args)) x
+
+-- the parts of a right side
+abbrev pub right_at : Naming → Item → Result (Naming × List Part) Refusal
+right_at s (Single it) = right_with (λ u. Ok (u, [])) s (Single it)
+right_at s (Word line text args) = right_with (λ u. rights_in u args) s (Word line text args)
+right_at s (Group line args) = right_with (λ u. rights_in u args) s (Group line args)
