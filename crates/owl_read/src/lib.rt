@@ -4,5 +4,8 @@
 mod builtins;
 mod documents;
 mod forms;
+mod literals;
 mod outcomes;
+mod roles;
+mod scope;
 mod sides;
