@@ -1,1 +1,3 @@
+pub mod NodeLaws
 pub mod ScopeLaws
+pub mod LiteralLaws

@@ -20,16 +20,23 @@ note_at s item = do
   name ← name_at Syntax s item
   note_named name.0 (line_of item) name.1
 
+-- whether a blank node stands here
+abbrev pub is_blank : Item → Bool
+is_blank (Single (blank line label)) = true
+is_blank item = false
+
+-- whether a literal stands here
+abbrev pub is_literal : Item → Bool
+is_literal (Single (literal line text tag datatype)) = true
+is_literal item = false
+
 -- what is annotated: an IRI or a blank node
 unfoldable pub subject_at : Naming → Item → Result Naming Refusal
-subject_at s (Single (blank line label)) = Ok s
-subject_at s item = iri_at s item >>= λ x. Ok x.0
+subject_at s item = if is_blank item then Ok s else (iri_at s item >>= λ x. Ok x.0)
 
 -- the value of an annotation: an IRI, a blank node or a literal
 unfoldable pub annotated_at : Naming → Item → Result Naming Refusal
-annotated_at s (Single (blank line label)) = Ok s
-annotated_at s (Single (literal line text tag datatype)) = literal_at s (Single (literal line text tag datatype)) >>= λ x. Ok x.0
-annotated_at s item = iri_at s item >>= λ x. Ok x.0
+annotated_at s item = if is_literal item then (literal_at s item >>= λ x. Ok x.0) else subject_at s item
 
 abbrev pub is_annotation : List ℕ → Bool
 is_annotation text = bytes_eq text (codes "Annotation")

@@ -1,5 +1,5 @@
 -- Class expressions at their places.
-use Rattle.std.specs.Prelude.{ℕ, List, [], ◌∷◌, ◌++◌, codes, length, nat_le, if◌then◌else◌, Result, Ok, Err}
+use Rattle.std.specs.Prelude.{ℕ, List, [], ◌∷◌, ◌++◌, codes, length, nat_le, if◌then◌else◌, Option, Some, None, Result, Ok, Err}
 use Rattle.std.specs.Str.{bytes_eq}
 use Rattle.dl_base.specs.declared.terms.Basic.{Basic}
 use Rattle.dl_base.specs.declared.terms.Basic.TheVariants as basic
@@ -18,7 +18,7 @@ use Rattle.owl_read.specs.declared.sides.Part.TheVariants.{Within, Related, Outs
 use Rattle.owl_read.specs.declared.sides.Side.{Side}
 use Rattle.owl_read.specs.declared.sides.Side.TheVariants as sides
 use Rattle.owl_read.specs.Builtins.{iri_of, is_builtin}
-use Rattle.owl_read.specs.Items.{Item, Single, Word, Group, items_of, line_of}
+use Rattle.owl_read.specs.Items.{Item, Single, Word, Group, items_of, word_in, line_of}
 use Rattle.owl_read.specs.Outcomes.{Refusal, ◌>>=◌}
 use Rattle.owl_read.specs.Places.{role_at, attr_at}
 use Rattle.owl_read.specs.Scopes.{Naming, name_at, is_name, term_named}
@@ -59,11 +59,13 @@ concept_of classes.Thing = concepts.Thing
 concept_of classes.Nothing = concepts.Nothing
 concept_of (classes.Named c) = concepts.Basic (basic.Class c)
 
+abbrev pub concept_by : Naming → Item → Option (ℕ × List ℕ × List Item) → Result (Naming × Concept) Refusal
+concept_by s item None = class_at s item >>= λ x. Ok (x.0, concept_of x.1)
+concept_by s item (Some w) = existential_at s w.0 w.1 w.2 >>= λ x. Ok (x.0, concepts.Basic x.1)
+
 -- owl:Thing, owl:Nothing or a basic concept
 unfoldable pub concept_at : Naming → Item → Result (Naming × Concept) Refusal
-concept_at s (Word line text args) = existential_at s line text (items_of args) >>= λ x. Ok (x.0, concepts.Basic x.1)
-concept_at s (Single it) = class_at s (Single it) >>= λ x. Ok (x.0, concept_of x.1)
-concept_at s (Group line args) = Err (line, Syntax)
+concept_at s item = concept_by s item (word_in item)
 
 abbrev pub basic_of : Naming → ℕ → Concept → Result (Naming × Basic) Refusal
 basic_of s line (concepts.Basic b) = Ok (s, b)
@@ -90,16 +92,16 @@ related q concepts.Thing = Within (basic.Exists q)
 related q concepts.Nothing = Empty
 
 -- ObjectSomeValuesFrom( Q B )
-unfoldable pub partner_in : Naming → ℕ → List Item → Result (Naming × List Part) Refusal
+unfoldable pub partner_in : Naming → ℕ → List Item → Result (Naming × Part) Refusal
 partner_in s line (role ∷ filler ∷ []) = do
   q ← role_at s role
   c ← concept_at q.0 filler
-  Ok (c.0, related q.1 c.1 ∷ [])
+  Ok (c.0, related q.1 c.1)
 partner_in s line items = Err (line, Syntax)
 
 -- ObjectComplementOf( B )
-unfoldable pub complement_of : Naming → ℕ → List Item → Result (Naming × List Part) Refusal
-complement_of s line (item ∷ []) = basic_at s item >>= λ x. Ok (x.0, Outside x.1 ∷ [])
+unfoldable pub complement_of : Naming → ℕ → List Item → Result (Naming × Part) Refusal
+complement_of s line (item ∷ []) = basic_at s item >>= λ x. Ok (x.0, Outside x.1)
 complement_of s line items = Err (line, Syntax)
 
 -- the parts of a right side that is owl:Thing, owl:Nothing or a basic concept
@@ -108,15 +110,22 @@ parts_of concepts.Thing = []
 parts_of concepts.Nothing = Empty ∷ []
 parts_of (concepts.Basic b) = Within b ∷ []
 
+-- the part that a right side is by its word, which is no intersection
+unfoldable pub single_right : Naming → ℕ → List ℕ → List Item → Result (Naming × Part) Refusal
+single_right s line text items =
+    if bytes_eq text (codes "ObjectComplementOf") then complement_of s line items
+    else (if bytes_eq text (codes "ObjectSomeValuesFrom") then partner_in s line items
+    else (existential_at s line text items >>= λ x. Ok (x.0, Within x.1)))
+
+abbrev pub right_by : (Naming → Result (Naming × List Part) Refusal) → Naming → Item → Option (ℕ × List ℕ × List Item) → Result (Naming × List Part) Refusal
+right_by within s item None = concept_at s item >>= λ x. Ok (x.0, parts_of x.1)
+right_by within s item (Some w) =
+    if bytes_eq w.1 (codes "ObjectIntersectionOf") then (if nat_le 2 (length w.2) then within s else Err (w.0, Syntax))
+    else (single_right s w.0 w.1 w.2 >>= λ x. Ok (x.0, x.1 ∷ []))
+
 -- the parts of the right side at the item, from left to right; within reads those of an intersection's members
 unfoldable pub right_with : (Naming → Result (Naming × List Part) Refusal) → Naming → Item → Result (Naming × List Part) Refusal
-right_with within s (Word line text args) =
-    if bytes_eq text (codes "ObjectIntersectionOf") then (if nat_le 2 (length (items_of args)) then within s else Err (line, Syntax))
-    else (if bytes_eq text (codes "ObjectComplementOf") then complement_of s line (items_of args)
-    else (if bytes_eq text (codes "ObjectSomeValuesFrom") then partner_in s line (items_of args)
-    else (concept_at s (Word line text args) >>= λ x. Ok (x.0, parts_of x.1))))
-right_with within s (Single it) = concept_at s (Single it) >>= λ x. Ok (x.0, parts_of x.1)
-right_with within s (Group line args) = concept_at s (Group line args) >>= λ x. Ok (x.0, parts_of x.1)
+right_with within s item = right_by within s item (word_in item)
 
 -- behind what was found, the parts of one right side more
 abbrev pub joined_by : {S : Type 0} → (S → Result (S × List Part) Refusal) → S × List Part → Result (S × List Part) Refusal

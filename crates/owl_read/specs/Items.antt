@@ -1,5 +1,5 @@
 -- The nodes of a document beside each other, in the order of the text.
-use Rattle.std.specs.Prelude.{ℕ, List, [], ◌∷◌, ◌++◌}
+use Rattle.std.specs.Prelude.{ℕ, List, [], ◌∷◌, ◌++◌, Option, Some, None}
 use Rattle.owl_syntax.specs.declared.nodes.Node.{Node, Word', Group', Iri, Prefixed, Blank, Digits, Literal'}
 use Rattle.owl_syntax.specs.Trees.{Leaf, iri, blank, digits, prefixed, literal, Forest, none, leaf, word, group, row_from, held_datatype}
 
@@ -33,6 +33,12 @@ abbrev pub line_of : Item → ℕ
 line_of (Single it) = line_of_leaf it
 line_of (Word line text args) = line
 line_of (Group line args) = line
+
+-- a word's line, its text and what stands in its parentheses
+abbrev pub word_in : Item → Option (ℕ × List ℕ × List Item)
+word_in (Word line text args) = Some (line, text, items_of args)
+word_in (Single it) = None
+word_in (Group line args) = None
 
 -- a node as the tree holds it
 abbrev pub item_of : Node → Item

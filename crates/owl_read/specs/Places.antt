@@ -1,12 +1,12 @@
 -- Roles, attributes and individuals at their places.
-use Rattle.std.specs.Prelude.{ℕ, List, [], ◌∷◌, codes, if◌then◌else◌, Result, Ok, Err}
+use Rattle.std.specs.Prelude.{ℕ, List, [], ◌∷◌, codes, if◌then◌else◌, Option, Some, None, Result, Ok, Err}
 use Rattle.std.specs.Str.{bytes_eq}
 use Rattle.dl_base.specs.declared.terms.Kind.TheVariants as kinds
 use Rattle.dl_base.specs.declared.terms.RoleSide.{RoleSide}
 use Rattle.dl_base.specs.declared.terms.RoleSide.TheVariants.{Direct, Inverse}
 use Rattle.dl_base.specs.declared.terms.Term.{Term}
 use Rattle.dl_text.specs.declared.kinds.ReadKind.TheVariants.{NotDlLite, Syntax, BlankNode}
-use Rattle.owl_read.specs.Items.{Item, Single, Word, Group, items_of}
+use Rattle.owl_read.specs.Items.{Item, word_in}
 use Rattle.owl_read.specs.Outcomes.{Refusal, ◌>>=◌}
 use Rattle.owl_read.specs.Scopes.{Naming, name_at, property_at}
 
@@ -15,11 +15,13 @@ unfoldable pub inverse_of : Naming → ℕ → List Item → Result (Naming × R
 inverse_of s line (item ∷ []) = property_at kinds.Role s item >>= λ x. Ok (x.0, Inverse x.1)
 inverse_of s line items = Err (line, Syntax)
 
+abbrev pub role_by : Naming → Item → Option (ℕ × List ℕ × List Item) → Result (Naming × RoleSide) Refusal
+role_by s item None = property_at kinds.Role s item >>= λ x. Ok (x.0, Direct x.1)
+role_by s item (Some word) = if bytes_eq word.1 (codes "ObjectInverseOf") then inverse_of s word.0 word.2 else Err (word.0, NotDlLite)
+
 -- a role: its name, or the inverse of a named one
 unfoldable pub role_at : Naming → Item → Result (Naming × RoleSide) Refusal
-role_at s (Word line text args) = if bytes_eq text (codes "ObjectInverseOf") then inverse_of s line (items_of args) else Err (line, NotDlLite)
-role_at s (Single it) = property_at kinds.Role s (Single it) >>= λ x. Ok (x.0, Direct x.1)
-role_at s (Group line args) = Err (line, Syntax)
+role_at s item = role_by s item (word_in item)
 
 -- an attribute, by its name
 abbrev pub attr_at : Naming → Item → Result (Naming × Term) Refusal

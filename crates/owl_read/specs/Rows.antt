@@ -37,7 +37,7 @@ use Rattle.owl_read.specs.declared.sides.Sort.TheVariants as sorts
 use Rattle.owl_read.specs.Annotations.{note_at, subject_at, annotated_at, behind, annotation_of, annotations_at, one_at, two_at, three_at, some_at}
 use Rattle.owl_read.specs.Concepts.{class_at, left_at, right_at}
 use Rattle.owl_read.specs.Forms.{form_of, entity_of}
-use Rattle.owl_read.specs.Items.{Item, Single, Word, Group, items_of, line_of}
+use Rattle.owl_read.specs.Items.{Item, word_in, line_of}
 use Rattle.owl_read.specs.Literals.{literal_at}
 use Rattle.owl_read.specs.Outcomes.{Refusal, ◌>>=◌}
 use Rattle.owl_read.specs.Places.{role_at, attr_at, individual_at, iri_at}
@@ -264,11 +264,13 @@ abbrev pub entity_by : Naming → ℕ → Option Entity → List Item → Result
 entity_by s line (Some entity) items = entity_in s line entity items
 entity_by s line None items = Err (line, refused.NotDlLite)
 
+abbrev pub entity_in_word : Naming → Item → Option (ℕ × List ℕ × List Item) → Result Naming Refusal
+entity_in_word s item (Some word) = entity_by s word.0 (entity_of word.1) word.2
+entity_in_word s item None = iri_at s item >>= λ x. Err (line_of item, refused.Syntax)
+
 -- a declared thing: its word and its name
 unfoldable pub entity_at : Naming → Item → Result Naming Refusal
-entity_at s (Word line text args) = entity_by s line (entity_of text) (items_of args)
-entity_at s (Single it) = iri_at s (Single it) >>= λ x. Err (line_of (Single it), refused.Syntax)
-entity_at s (Group line args) = Err (line, refused.Syntax)
+entity_at s item = entity_in_word s item (word_in item)
 
 unfoldable pub declaration : Naming → ℕ → List Item → Result Naming Refusal
 declaration s line items = do
@@ -315,8 +317,10 @@ abbrev pub row : Option Form → Reading → ℕ → List Item → Result Readin
 row (Some form) r line items = form_row form r line items
 row None r line items = Err (line, refused.NotDlLite)
 
+abbrev pub taken_by : Reading → Item → Option (ℕ × List ℕ × List Item) → Result Reading Refusal
+taken_by r item (Some word) = row (form_of word.1) r word.0 word.2
+taken_by r item None = iri_at r.scope item >>= λ x. Ok (moved r x.0)
+
 -- one node of a document: an axiom, an import or an annotation by its word, or the document's own IRI or version IRI
 unfoldable pub taken : Reading → Item → Result Reading Refusal
-taken r (Word line text args) = row (form_of text) r line (items_of args)
-taken r (Single it) = iri_at r.scope (Single it) >>= λ x. Ok (moved r x.0)
-taken r (Group line args) = Err (line, refused.Syntax)
+taken r item = taken_by r item (word_in item)

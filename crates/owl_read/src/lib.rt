@@ -2,10 +2,13 @@
 #![tactic(auto)]
 
 mod builtins;
+mod concepts;
 mod documents;
 mod forms;
 mod literals;
+mod nodes;
 mod outcomes;
+mod rights;
 mod roles;
 mod scope;
 mod sides;

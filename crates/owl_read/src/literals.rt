@@ -6,7 +6,8 @@ ghost use Rattle.owl_read.specs.Literals.{undone, value_of, datatype_at, literal
 ghost use Rattle.owl_read.specs.Outcomes.{Gives};
 
 use crate::outcomes::{refusal_at, refused};
-use crate::scope::{Scope, line_of};
+use crate::scope::Scope;
+use crate::nodes::line_of;
 use dl_base::{Name, OutOfMemory, Value};
 use dl_text::{ReadKind, ReadRefusal, canonical_value};
 use owl_syntax::Node;
@@ -64,7 +65,7 @@ impl Scope {
     }
 
     /// The value at a place where nothing but a literal may stand.
-    #[tactic(auto, unfolding(crate::specs::Literals::literal_at), unfolding(crate::specs::Literals::datatype_at))]
+    #[tactic(auto, unfolding(crate::specs::Literals::literal_at, crate::specs::Literals::datatype_at))]
     pub fn literal(&self, node: &Node<'_>) -> Result<Value, ReadRefusal>
         ensures { Gives self.now result (literal_at self.now (item_of node.now)) }
     {

@@ -5,6 +5,7 @@ ghost use Rattle.owl_read.specs.Outcomes.{Gives};
 ghost use Rattle.owl_read.specs.Places.{inverse_of, role_at, attr_at, individual_at, iri_at};
 ghost use Rattle.std.specs.Prelude.{map};
 
+use crate::nodes::word_in;
 use crate::outcomes::refused;
 use crate::scope::Scope;
 use dl_base::{Kind, Name, RoleSide, Term};
@@ -38,15 +39,15 @@ impl Scope {
     pub fn role(&mut self, node: &Node<'_>) -> Result<RoleSide, ReadRefusal>
         ensures { Gives self.new result (role_at self.old (item_of node.now)) }
     {
-        match node {
-            Node::Word { line, text, args } => {
-                if *text == b"ObjectInverseOf".as_slice() {
-                    self.inverse_of(*line, args)
+        match word_in(node) {
+            Some((line, text, args)) => {
+                if text == b"ObjectInverseOf".as_slice() {
+                    self.inverse_of(line, args)
                 } else {
-                    Err(refused(*line, ReadKind::NotDlLite))
+                    Err(refused(line, ReadKind::NotDlLite))
                 }
             }
-            _ => Ok(RoleSide::Direct(self.property(Kind::Role, node)?)),
+            None => Ok(RoleSide::Direct(self.property(Kind::Role, node)?)),
         }
     }
 

@@ -6,6 +6,7 @@ ghost use Rattle.owl_read.specs.Outcomes.{Yields, Gives};
 ghost use Rattle.owl_read.specs.Scopes.{same_kind, resolved, name_at, is_name, added, numbered, term_named, property_at};
 
 use crate::builtins::is_barred;
+use crate::nodes::line_of;
 use crate::outcomes::{refusal_at, refused};
 use dl_base::{Kind, Name, OutOfMemory, Term};
 use dl_text::{NamePool, Prefixes, ReadKind, ReadRefusal};
@@ -36,21 +37,6 @@ impl Model for Scope {
     ghost view = { λ s. record { prefixes = s.prefixes; terms = map (λ e. (e.0.items, e.1)) s.terms.entries } };
 
     ghost invariant = { λ s. length s.terms.entries ≤ 4000 };
-}
-
-/// The line of a node's first token.
-pub fn line_of(node: &Node<'_>) -> u64
-    ensures { result ≡ line_of (item_of node.now) }
-{
-    match node {
-        Node::Word { line, .. } => *line,
-        Node::Group { line, .. } => *line,
-        Node::Iri { line, .. } => *line,
-        Node::Prefixed { line, .. } => *line,
-        Node::Blank { line, .. } => *line,
-        Node::Digits { line, .. } => *line,
-        Node::Literal { line, .. } => *line,
-    }
 }
 
 fn same_kind(one: Kind, other: Kind) -> bool
