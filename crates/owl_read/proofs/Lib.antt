@@ -1,3 +1,5 @@
+pub mod RunLaws
 pub mod NodeLaws
+pub mod RightLaws
 pub mod ScopeLaws
 pub mod LiteralLaws

@@ -40,8 +40,8 @@ either_back : (text one two : List ℕ) → (text ≡ one) ⊎ (text ≡ two) �
 either_back text one two (inl h) = or_left (bytes_eq text one) (bytes_eq text two) (bytes_same text one h)
 either_back text one two (inr h) = or_right (bytes_eq text one) (bytes_eq text two) (bytes_same text two h)
 
-truth_forth : (text out : List ℕ) (yes no : Bool) → is_yes text ≡ yes → is_no text ≡ no → cond yes (Some (codes "true")) (cond no (Some (codes "false")) None) ≡ Some out → IsTruth text out
-truth_forth text out true no e f h = inl (either text (codes "true") (codes "1") e, cc)
+truth_forth : (text out : List ℕ) (y n : Bool) → is_yes text ≡ y → is_no text ≡ n → cond y (Some (codes "true")) (cond n (Some (codes "false")) None) ≡ Some out → IsTruth text out
+truth_forth text out true n e f h = inl (either text (codes "true") (codes "1") e, cc)
 truth_forth text out false true e f h = inr (either text (codes "false") (codes "0") f, cc)
 truth_forth text out false false e f h = cc
 

@@ -1,11 +1,11 @@
 -- Annotations, which give terms and nothing else.
-use Rattle.std.specs.Prelude.{ℕ, List, [], ◌∷◌, codes, Bool, true, false, if◌then◌else◌, Result, Ok, Err}
+use Rattle.std.specs.Prelude.{ℕ, List, [], ◌∷◌, codes, Bool, true, false, if◌then◌else◌, Option, Some, None, Result, Ok, Err}
 use Rattle.std.specs.Str.{bytes_eq}
 use Rattle.dl_base.specs.declared.terms.Kind.TheVariants as kinds
 use Rattle.dl_text.specs.declared.kinds.ReadKind.TheVariants.{Syntax}
 use Rattle.owl_syntax.specs.Trees.{Forest, none, leaf, word, group, iri, blank, digits, prefixed, literal}
 use Rattle.owl_read.specs.Builtins.{is_fixed_note}
-use Rattle.owl_read.specs.Items.{Item, Single, Word, Group, items_of, line_of}
+use Rattle.owl_read.specs.Items.{Item, Single, Word, Group, items_of, word_in, line_of}
 use Rattle.owl_read.specs.Literals.{literal_at}
 use Rattle.owl_read.specs.Outcomes.{Refusal, ◌>>=◌}
 use Rattle.owl_read.specs.Places.{iri_at}
@@ -41,12 +41,14 @@ annotated_at s item = if is_literal item then (literal_at s item >>= λ x. Ok x.
 abbrev pub is_annotation : List ℕ → Bool
 is_annotation text = bytes_eq text (codes "Annotation")
 
+abbrev pub names_annotation : Option (ℕ × List ℕ × List Item) → Bool
+names_annotation (Some w) = is_annotation w.1
+names_annotation None = false
+
 -- what stands behind the annotations in front
 abbrev pub behind : List Item → List Item
 behind [] = []
-behind (Word line text args ∷ items) = if is_annotation text then behind items else Word line text args ∷ items
-behind (Single it ∷ items) = Single it ∷ items
-behind (Group line args ∷ items) = Group line args ∷ items
+behind (item ∷ items) = if names_annotation (word_in item) then behind items else item ∷ items
 
 -- Annotation( annotations P value ), with what stands behind its own annotations, which within reads
 unfoldable pub annotation_of : (Naming → Result Naming Refusal) → Naming → ℕ → List Item → Result Naming Refusal
@@ -75,6 +77,10 @@ annotations_at s (Word line text args ∷ items) =
     if is_annotation text then (annotation_of (λ u. annotations_in u args >>= λ y. Ok y.0) s line (behind (items_of args)) >>= λ t. annotations_at t items) else Ok s
 annotations_at s (Single it ∷ items) = Ok s
 annotations_at s (Group line args ∷ items) = Ok s
+
+-- Annotation( annotations P value ), with what stands in its parentheses
+unfoldable pub annotation_at : Naming → ℕ → List Item → Result Naming Refusal
+annotation_at s line items = annotation_of (λ t. annotations_at t items) s line (behind items)
 
 abbrev pub one_of : Naming → ℕ → List Item → List Item → Result (Naming × Item) Refusal
 one_of s line items (one ∷ []) = annotations_at s items >>= λ t. Ok (t, one)

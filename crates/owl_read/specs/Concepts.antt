@@ -19,7 +19,7 @@ use Rattle.owl_read.specs.declared.sides.Side.{Side}
 use Rattle.owl_read.specs.declared.sides.Side.TheVariants as sides
 use Rattle.owl_read.specs.Builtins.{iri_of, is_builtin}
 use Rattle.owl_read.specs.Items.{Item, Single, Word, Group, items_of, word_in, line_of}
-use Rattle.owl_read.specs.Outcomes.{Refusal, ◌>>=◌}
+use Rattle.owl_read.specs.Outcomes.{Refusal, ◌>>=◌, with_front}
 use Rattle.owl_read.specs.Places.{role_at, attr_at}
 use Rattle.owl_read.specs.Scopes.{Naming, name_at, is_name, term_named}
 
@@ -117,26 +117,30 @@ single_right s line text items =
     else (if bytes_eq text (codes "ObjectSomeValuesFrom") then partner_in s line items
     else (existential_at s line text items >>= λ x. Ok (x.0, Within x.1)))
 
-abbrev pub right_by : (Naming → Result (Naming × List Part) Refusal) → Naming → Item → Option (ℕ × List ℕ × List Item) → Result (Naming × List Part) Refusal
-right_by within s item None = concept_at s item >>= λ x. Ok (x.0, parts_of x.1)
-right_by within s item (Some w) =
-    if bytes_eq w.1 (codes "ObjectIntersectionOf") then (if nat_le 2 (length w.2) then within s else Err (w.0, Syntax))
-    else (single_right s w.0 w.1 w.2 >>= λ x. Ok (x.0, x.1 ∷ []))
+-- the parts of a right side without a word
+unfoldable pub named_right : Naming → Item → Result (Naming × List Part) Refusal
+named_right s item = concept_at s item >>= λ x. Ok (x.0, parts_of x.1)
 
--- the parts of the right side at the item, from left to right; within reads those of an intersection's members
+-- the parts of a right side by its word; within reads those of an intersection's members
+unfoldable pub word_right : (Naming → Result (Naming × List Part) Refusal) → Naming → ℕ → List ℕ → List Item → Result (Naming × List Part) Refusal
+word_right within s line text items =
+    if bytes_eq text (codes "ObjectIntersectionOf") then (if nat_le 2 (length items) then within s else Err (line, Syntax))
+    else (single_right s line text items >>= λ x. Ok (x.0, x.1 ∷ []))
+
+abbrev pub right_by : (Naming → Result (Naming × List Part) Refusal) → Naming → Item → Option (ℕ × List ℕ × List Item) → Result (Naming × List Part) Refusal
+right_by within s item None = named_right s item
+right_by within s item (Some w) = word_right within s w.0 w.1 w.2
+
+-- the parts of the right side at the item, from left to right
 unfoldable pub right_with : (Naming → Result (Naming × List Part) Refusal) → Naming → Item → Result (Naming × List Part) Refusal
 right_with within s item = right_by within s item (word_in item)
-
--- behind what was found, the parts of one right side more
-abbrev pub joined_by : {S : Type 0} → (S → Result (S × List Part) Refusal) → S × List Part → Result (S × List Part) Refusal
-joined_by read found = read found.0 >>= λ x. Ok (x.0, found.1 ++ x.1)
 
 -- the parts of right sides beside each other
 unfoldable pub rights_in : Naming → Forest → Result (Naming × List Part) Refusal
 rights_in s none = Ok (s, [])
-rights_in s (leaf before it) = rights_in s before >>= λ x. joined_by (λ t. right_with (λ u. Ok (u, [])) t (Single it)) x
-rights_in s (word before line text args) = rights_in s before >>= λ x. joined_by (λ t. right_with (λ u. rights_in u args) t (Word line text args)) x
-rights_in s (group before line args) = rights_in s before >>= λ x. joined_by (λ t. right_with (λ u. rights_in u args) t (Group line args)) x
+rights_in s (leaf before it) = rights_in s before >>= λ x. with_front x.1 (right_with (λ u. Ok (u, [])) x.0 (Single it))
+rights_in s (word before line text args) = rights_in s before >>= λ x. with_front x.1 (right_with (λ u. rights_in u args) x.0 (Word line text args))
+rights_in s (group before line args) = rights_in s before >>= λ x. with_front x.1 (right_with (λ u. rights_in u args) x.0 (Group line args))
 
 -- the parts of a right side
 abbrev pub right_at : Naming → Item → Result (Naming × List Part) Refusal

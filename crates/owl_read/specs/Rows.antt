@@ -34,7 +34,7 @@ use Rattle.owl_read.specs.declared.sides.Side.{Side}
 use Rattle.owl_read.specs.declared.sides.Side.TheVariants as sides
 use Rattle.owl_read.specs.declared.sides.Sort.{Sort}
 use Rattle.owl_read.specs.declared.sides.Sort.TheVariants as sorts
-use Rattle.owl_read.specs.Annotations.{note_at, subject_at, annotated_at, behind, annotation_of, annotations_at, one_at, two_at, three_at, some_at}
+use Rattle.owl_read.specs.Annotations.{note_at, subject_at, annotated_at, annotation_at, one_at, two_at, three_at, some_at}
 use Rattle.owl_read.specs.Concepts.{class_at, left_at, right_at}
 use Rattle.owl_read.specs.Forms.{form_of, entity_of}
 use Rattle.owl_read.specs.Items.{Item, word_in, line_of}
@@ -299,7 +299,7 @@ note_iri s line items = do
 
 unfoldable pub note_row : NoteForm → Naming → ℕ → List Item → Result Naming Refusal
 note_row Import s line items = Err (line, refused.Import)
-note_row Annotation s line items = annotation_of (λ t. annotations_at t items) s line (behind items)
+note_row Annotation s line items = annotation_at s line items
 note_row Declaration s line items = declaration s line items
 note_row AnnotationAssertion s line items = note_assertion s line items
 note_row SubAnnotationPropertyOf s line items = note_pair s line items

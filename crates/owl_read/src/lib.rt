@@ -1,6 +1,7 @@
 //! Ontologies in OWL 2 functional-style syntax, as far as DL-Lite_A goes: the terms, axioms and assertions of a document.
 #![tactic(auto)]
 
+mod annotations;
 mod builtins;
 mod concepts;
 mod documents;
