@@ -3,3 +3,4 @@ pub mod NodeLaws
 pub mod RightLaws
 pub mod ScopeLaws
 pub mod LiteralLaws
+pub mod AnnotationLaws

@@ -58,25 +58,32 @@ annotation_of within s line (property ∷ value ∷ []) = do
   annotated_at u value
 annotation_of within s line items = Err (line, Syntax)
 
--- one node more behind annotations, if nothing else stood before it
-abbrev pub annotation_with : (Naming → Result Naming Refusal) → Naming × Bool → ℕ → List ℕ → List Item → Result (Naming × Bool) Refusal
-annotation_with within (s, false) line text items = Ok (s, false)
-annotation_with within (s, true) line text items = if is_annotation text then (annotation_of within s line (behind items) >>= λ t. Ok (t, true)) else Ok (s, false)
+-- the node is read if it is an annotation; and whether it is one
+abbrev pub front_by : (Naming → Result Naming Refusal) → Naming → Option (ℕ × List ℕ × List Item) → Result (Naming × Bool) Refusal
+front_by within s None = Ok (s, false)
+front_by within s (Some w) = if is_annotation w.1 then (annotation_of within s w.0 (behind w.2) >>= λ t. Ok (t, true)) else Ok (s, false)
+
+-- behind annotations alone one node more
+abbrev pub front_behind : (Naming → Result Naming Refusal) → Naming × Bool → Item → Result (Naming × Bool) Refusal
+front_behind within x item = if x.1 then front_by within x.0 (word_in item) else Ok (x.0, false)
 
 -- the annotations in front, and whether nothing else stands there
 unfoldable pub annotations_in : Naming → Forest → Result (Naming × Bool) Refusal
 annotations_in s none = Ok (s, true)
-annotations_in s (leaf before it) = annotations_in s before >>= λ x. Ok (x.0, false)
-annotations_in s (word before line text args) = annotations_in s before >>= λ x. annotation_with (λ u. annotations_in u args >>= λ y. Ok y.0) x line text (items_of args)
-annotations_in s (group before line args) = annotations_in s before >>= λ x. Ok (x.0, false)
+annotations_in s (leaf before it) = annotations_in s before >>= λ x. front_behind (λ u. Ok u) x (Single it)
+annotations_in s (word before line text args) = annotations_in s before >>= λ x. front_behind (λ u. annotations_in u args >>= λ y. Ok y.0) x (Word line text args)
+annotations_in s (group before line args) = annotations_in s before >>= λ x. front_behind (λ u. Ok u) x (Group line args)
+
+-- the node is read if it is an annotation; and whether it is one
+unfoldable pub front_at : Naming → Item → Result (Naming × Bool) Refusal
+front_at s (Word line text args) = front_by (λ u. annotations_in u args >>= λ y. Ok y.0) s (Some (line, text, items_of args))
+front_at s (Single it) = Ok (s, false)
+front_at s (Group line args) = Ok (s, false)
 
 -- the annotations in front of the nodes
 unfoldable pub annotations_at : Naming → List Item → Result Naming Refusal
 annotations_at s [] = Ok s
-annotations_at s (Word line text args ∷ items) =
-    if is_annotation text then (annotation_of (λ u. annotations_in u args >>= λ y. Ok y.0) s line (behind (items_of args)) >>= λ t. annotations_at t items) else Ok s
-annotations_at s (Single it ∷ items) = Ok s
-annotations_at s (Group line args ∷ items) = Ok s
+annotations_at s (item ∷ items) = front_at s item >>= λ x. if x.1 then annotations_at x.0 items else Ok x.0
 
 -- Annotation( annotations P value ), with what stands in its parentheses
 unfoldable pub annotation_at : Naming → ℕ → List Item → Result Naming Refusal

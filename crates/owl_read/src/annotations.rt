@@ -1,5 +1,5 @@
-ghost use Rattle.std.specs.Prelude.{◌≡◌, map};
-ghost use Rattle.owl_read.specs.Annotations.{note_named, note_at, subject_at, annotated_at, names_annotation, behind, annotation_of, annotations_at, annotation_at};
+ghost use Rattle.std.specs.Prelude.{◌≡◌, Some, map};
+ghost use Rattle.owl_read.specs.Annotations.{note_named, note_at, subject_at, annotated_at, names_annotation, behind, front_by, front_at, annotation_of, annotations_at, annotation_at};
 ghost use Rattle.owl_read.specs.Items.{item_of, word_in};
 ghost use Rattle.owl_read.specs.Outcomes.{Gives, Does};
 
@@ -79,19 +79,51 @@ impl Scope {
 
     /// The annotations in front of the nodes.
     #[cycle(annotations)]
+    #[tactic(auto, unfolding(crate::specs::Annotations::annotations_at))]
     pub fn annotations(&mut self, nodes: &[Node<'_>]) -> Result<(), ReadRefusal>
         ensures { Does self.new result (annotations_at self.old (map item_of nodes.now)) }
     {
         for node in nodes {
-            let Node::Word { line, text, args } = node else {
-                return Ok(());
-            };
-            if *text != b"Annotation".as_slice() {
+            if !self.front(node)? {
                 return Ok(());
             }
-            self.annotation(*line, args)?;
         }
         Ok(())
+    }
+
+    /// Reads the node if it is an annotation, and tells whether it is one.
+    #[cycle(annotations)]
+    #[tactic(auto, unfolding(crate::specs::Annotations::front_at))]
+    fn front(&mut self, node: &Node<'_>) -> Result<bool, ReadRefusal>
+        ensures { Gives self.new result (front_at self.old (item_of node.now)) }
+    {
+        match node {
+            Node::Word { line, text, args } => self.word_front(*line, text, args),
+            Node::Group { .. } => Ok(false),
+            Node::Iri { .. } => Ok(false),
+            Node::Prefixed { .. } => Ok(false),
+            Node::Blank { .. } => Ok(false),
+            Node::Digits { .. } => Ok(false),
+            Node::Literal { .. } => Ok(false),
+        }
+    }
+
+    /// The same for a word.
+    #[cycle(annotations)]
+    #[tactic(auto, unfolding(crate::specs::Annotations::annotation_at))]
+    fn word_front(
+        &mut self,
+        line: u64,
+        text: &[u8],
+        args: &[Node<'_>],
+    ) -> Result<bool, ReadRefusal>
+        ensures { Gives self.new result (front_by (λ t. annotations_at t (map item_of args.now)) self.old (Some (line, text.now, map item_of args.now))) }
+    {
+        if text != b"Annotation".as_slice() {
+            return Ok(false);
+        }
+        self.annotation(line, args)?;
+        Ok(true)
     }
 
     /// An annotation, with what stands in its parentheses.
