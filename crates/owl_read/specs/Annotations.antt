@@ -1,5 +1,5 @@
 -- Annotations, which give terms and nothing else.
-use Rattle.std.specs.Prelude.{ℕ, List, [], ◌∷◌, codes, Bool, true, false, if◌then◌else◌, Option, Some, None, Result, Ok, Err}
+use Rattle.std.specs.Prelude.{ℕ, List, [], ◌∷◌, codes, Bool, true, false, if◌then◌else◌, length, nat_lt, Option, Some, None, Result, Ok, Err}
 use Rattle.std.specs.Str.{bytes_eq}
 use Rattle.dl_base.specs.declared.terms.Kind.TheVariants as kinds
 use Rattle.dl_text.specs.declared.kinds.ReadKind.TheVariants.{Syntax}
@@ -113,10 +113,6 @@ three_of s line items rest = Err (line, Syntax)
 unfoldable pub three_at : Naming → ℕ → List Item → Result (Naming × (Item × Item × Item)) Refusal
 three_at s line items = three_of s line items (behind items)
 
-abbrev pub some_of : Naming → ℕ → List Item → List Item → Result (Naming × List Item) Refusal
-some_of s line items (one ∷ two ∷ rest) = annotations_at s items >>= λ t. Ok (t, one ∷ two ∷ rest)
-some_of s line items rest = Err (line, Syntax)
-
 -- the nodes behind the annotations, which are two or more
 unfoldable pub some_at : Naming → ℕ → List Item → Result (Naming × List Item) Refusal
-some_at s line items = some_of s line items (behind items)
+some_at s line items = if nat_lt (length (behind items)) 2 then Err (line, Syntax) else (annotations_at s items >>= λ t. Ok (t, behind items))

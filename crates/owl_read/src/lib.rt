@@ -2,6 +2,7 @@
 #![tactic(auto)]
 
 mod annotations;
+mod arguments;
 mod builtins;
 mod concepts;
 mod documents;
