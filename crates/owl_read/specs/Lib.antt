@@ -10,3 +10,4 @@ pub mod Forms
 pub mod Table
 pub mod Rows
 pub mod Documents
+pub mod Held

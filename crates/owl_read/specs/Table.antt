@@ -12,6 +12,8 @@ use Rattle.owl_read.specs.declared.sides.Side.{Side}
 use Rattle.owl_read.specs.declared.sides.Side.TheVariants.{Nothing, Concept, Role, Attr}
 use Rattle.owl_read.specs.declared.sides.Part.{Part}
 use Rattle.owl_read.specs.declared.sides.Part.TheVariants.{Within, Related, Outside, Empty}
+use Rattle.owl_read.specs.declared.sides.Pass.{Pass}
+use Rattle.owl_read.specs.declared.sides.Pass.TheVariants as passes
 use Rattle.owl_read.specs.Builtins.{is_builtin}
 
 abbrev pub same_term : Term → Term → Bool
@@ -52,25 +54,18 @@ abbrev pub all_apart : List Side → List Axiom
 all_apart [] = []
 all_apart (one ∷ rest) = flat_map (apart one) rest ++ all_apart rest
 
-abbrev pub within : Basic → Part → List Axiom
-within b (Within c) = ConceptIn b c ∷ []
-within b other = []
-
-abbrev pub related : Basic → Part → List Axiom
-related b (Related q c) = ConceptSome b q c ∷ []
-related b other = []
-
-abbrev pub outside : Basic → Part → List Axiom
-outside b (Outside c) = ConceptApart b c ∷ []
-outside b other = []
-
-abbrev pub emptied : Basic → Part → List Axiom
-emptied b Empty = ConceptApart b b ∷ []
-emptied b other = []
+-- what a part gives in a pass over the parts
+abbrev pub given : Pass → Basic → Part → List Axiom
+given passes.Within b (Within c) = ConceptIn b c ∷ []
+given passes.Related b (Related q c) = ConceptSome b q c ∷ []
+given passes.Outside b (Outside c) = ConceptApart b c ∷ []
+given passes.Empty b Empty = ConceptApart b b ∷ []
+given pass b part = []
 
 -- the concept is within a right side of these parts: first its basic ones, then 'some role in a concept', then complements, then owl:Nothing
 abbrev pub limited : Basic → List Part → List Axiom
-limited b parts = flat_map (within b) parts ++ (flat_map (related b) parts ++ (flat_map (outside b) parts ++ flat_map (emptied b) parts))
+limited b parts =
+    flat_map (given passes.Within b) parts ++ flat_map (given passes.Related b) parts ++ flat_map (given passes.Outside b) parts ++ flat_map (given passes.Empty b) parts
 
 -- a left side is within a right side of these parts; owl:Nothing is within all
 abbrev pub subclass : Side → List Part → List Axiom

@@ -3,14 +3,21 @@
 
 mod annotations;
 mod arguments;
+mod assertions;
+mod attr_axioms;
 mod builtins;
+mod class_axioms;
 mod concepts;
+mod declarations;
 mod documents;
 mod forms;
 mod literals;
 mod nodes;
 mod outcomes;
+mod reader;
 mod rights;
+mod role_axioms;
 mod roles;
 mod scope;
 mod sides;
+mod table;

@@ -1,4 +1,5 @@
 ghost use Rattle.std.specs.Prelude.{◌≡◌, ◌++◌, ◌∷◌, [], map};
+ghost use Rattle.dl_text.specs.Outcomes.{seen};
 ghost use Rattle.owl_syntax.specs.Trees.{forest_of};
 ghost use Rattle.owl_read.specs.Concepts.{related, partner_in, complement_of, parts_of, single_right, named_right, word_right, right_at, rights_in};
 ghost use Rattle.owl_read.specs.Items.{item_of};
@@ -134,5 +135,14 @@ impl Scope {
             self.right(node, parts)?;
         }
         Ok(())
+    }
+
+    /// The parts of a right side.
+    pub fn parts(&mut self, node: &Node<'_>) -> Result<Vec<Part>, ReadRefusal>
+        ensures { Gives self.new (seen (λ parts. parts.items) result) (right_at self.old (item_of node.now)) }
+    {
+        let mut parts = Vec::new(self.alloc());
+        self.right(node, &mut parts)?;
+        Ok(parts)
     }
 }

@@ -45,3 +45,12 @@ pub enum Part {
     /// There is none of it.
     Empty,
 }
+
+/// Which parts of a right side give their axioms: these passes are made one after another.
+#[derive(Clone, Copy, Debug, PartialEq, Eq)]
+pub enum Pass {
+    Within,
+    Related,
+    Outside,
+    Empty,
+}
