@@ -4,3 +4,4 @@ pub mod RightLaws
 pub mod ScopeLaws
 pub mod LiteralLaws
 pub mod AnnotationLaws
+pub mod DifferentLaws

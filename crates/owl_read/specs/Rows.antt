@@ -233,7 +233,7 @@ data_fact r line items = do
 unfoldable pub different_at : List (List ℕ) → Naming → List Item → Result Naming Refusal
 different_at seen s [] = Ok s
 different_at seen s (item ∷ items) = individual_at s item >>= λ x.
-    if list_any (bytes_eq x.1) seen then Err (line_of item, refused.NotDlLite) else different_at (x.1 ∷ seen) x.0 items
+    if list_any (λ (one : List ℕ). bytes_eq one x.1) seen then Err (line_of item, refused.NotDlLite) else different_at (x.1 ∷ seen) x.0 items
 
 unfoldable pub different_row : Reading → ℕ → List Item → Result Reading Refusal
 different_row r line items = do
