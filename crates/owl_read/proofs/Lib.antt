@@ -5,3 +5,6 @@ pub mod ScopeLaws
 pub mod LiteralLaws
 pub mod AnnotationLaws
 pub mod DifferentLaws
+pub mod KeepLaws
+pub mod KeepPlaces
+pub mod KeepTable

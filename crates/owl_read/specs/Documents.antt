@@ -26,9 +26,9 @@ bindings_of lines = fold (λ (bindings : Bindings) (line : PrefixLine). with_pre
 abbrev pub start : List (List ℕ × Kind) → Content → Reading
 start terms content = record { scope = record { prefixes = bindings_of content.prefixes; terms = terms }; axioms = []; facts = []; skipped = 0 }
 
--- all nodes are taken, and nothing functional is specialised
-pub record IsRead (terms : List (List ℕ × Kind)) (content : Content) (reading : Reading) : Type 0 where
-  pub runs : run taken (start terms content) (inside content.root) ≡ Ok reading
+-- from here all nodes are taken, and nothing functional is specialised
+pub record IsRead (from : Reading) (items : List Item) (reading : Reading) : Type 0 where
+  pub runs : run taken from items ≡ Ok reading
   pub valid : IsValid reading.axioms
 
 -- the node is refused, or with it something functional is specialised
@@ -37,16 +37,21 @@ IsRefusedBy reading item line kind =
     (taken reading item ≡ Err (line, kind))
     ⊎ ((after : Reading) × (taken reading item ≡ Ok after) × (¬ IsValid after.axioms) × (line ≡ line_of item) × (kind ≡ FunctionalSpecialised))
 
--- the first node that is refused; before it nothing functional is specialised
-pub record IsRefusedAt (terms : List (List ℕ × Kind)) (content : Content) (line : ℕ) (kind : ReadKind) : Type 0 where
+-- the first node from here that is refused; before it nothing functional is specialised
+pub record IsRefusedAt (from : Reading) (items : List Item) (line : ℕ) (kind : ReadKind) : Type 0 where
   pub before : List Item
   pub item : Item
   pub rest : List Item
-  pub is : inside content.root ≡ before ++ item ∷ rest
+  pub is : items ≡ before ++ item ∷ rest
   pub reading : Reading
-  pub runs : run taken (start terms content) before ≡ Ok reading
-  pub valid : IsValid reading.axioms
+  pub read : IsRead from before reading
   pub refused : IsRefusedBy reading item line kind
+
+-- what taking the nodes from here answers
+abbrev pub Takes : {X : Type 0} → Reading → List Item → Reading → Result X ReadRefusal → Type 0
+Takes from items new (Ok x) = IsRead from items new
+Takes from items new (Err (Refused line kind)) = IsRefusedAt from items line kind
+Takes from items new (Err OutOfMemory) = Unit {0}
 
 abbrev pub theory_of : Reading → Theory
 theory_of reading = record { terms = reading.scope.terms; axioms = reading.axioms }
@@ -54,15 +59,15 @@ theory_of reading = record { terms = reading.scope.terms; axioms = reading.axiom
 -- reading an ontology: its theory, its assertions in order, repeats dropped, and how many were skipped; or the first refusal
 abbrev pub Reads : List ℕ → Result (Theory × List Fact × ℕ) ReadRefusal → Type 0
 Reads bytes (Ok (theory, facts, skipped)) = (content : Content) × Parses bytes (Ok content)
-    × ((reading : Reading) × IsRead [] content reading × (theory ≡ theory_of reading) × IsOnce reading.facts facts × (skipped ≡ reading.skipped))
-Reads bytes (Err (Refused line kind)) = Parses bytes (Err (Refused line kind)) ⊎ ((content : Content) × Parses bytes (Ok content) × IsRefusedAt [] content line kind)
+    × ((reading : Reading) × IsRead (start [] content) (inside content.root) reading × (theory ≡ theory_of reading) × IsOnce reading.facts facts × (skipped ≡ reading.skipped))
+Reads bytes (Err (Refused line kind)) = Parses bytes (Err (Refused line kind)) ⊎ ((content : Content) × Parses bytes (Ok content) × IsRefusedAt (start [] content) (inside content.root) line kind)
 Reads bytes (Err OutOfMemory) = Unit {0}
 
 -- reading an ontology over these terms, which come first: no facts, and each assertion is skipped
 abbrev pub ReadsOver : List (List ℕ × Kind) → List ℕ → Result (Theory × List Fact × ℕ) ReadRefusal → Type 0
 ReadsOver terms bytes (Ok (theory, facts, skipped)) = (content : Content) × Parses bytes (Ok content)
-    × ((reading : Reading) × IsRead terms content reading × (theory ≡ theory_of reading) × (facts ≡ []) × (skipped ≡ reading.skipped + length reading.facts))
-ReadsOver terms bytes (Err (Refused line kind)) = Parses bytes (Err (Refused line kind)) ⊎ ((content : Content) × Parses bytes (Ok content) × IsRefusedAt terms content line kind)
+    × ((reading : Reading) × IsRead (start terms content) (inside content.root) reading × (theory ≡ theory_of reading) × (facts ≡ []) × (skipped ≡ reading.skipped + length reading.facts))
+ReadsOver terms bytes (Err (Refused line kind)) = Parses bytes (Err (Refused line kind)) ⊎ ((content : Content) × Parses bytes (Ok content) × IsRefusedAt (start terms content) (inside content.root) line kind)
 ReadsOver terms bytes (Err OutOfMemory) = Unit {0}
 
 -- what was read, as contracts see it
