@@ -8,3 +8,4 @@ pub mod DifferentLaws
 pub mod KeepLaws
 pub mod KeepPlaces
 pub mod KeepTable
+pub mod KeepRows
