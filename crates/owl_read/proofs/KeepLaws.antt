@@ -10,7 +10,7 @@ use Rattle.std.proofs.lemmas.List.Elements.{All-nil, All-cons}
 use Rattle.dl_base.specs.declared.terms.Kind.{Kind}
 use Rattle.dl_base.specs.declared.terms.Kind.TheVariants as kinds
 use Rattle.dl_base.specs.declared.terms.Term.{Term}
-use Rattle.dl_base.specs.Ontologies.{Theory, IsTerm, AreNamedOnce}
+use Rattle.dl_base.specs.Ontologies.{Theory, IsTerm}
 use Rattle.dl_base.specs.Vocabularies.{names_of, bare}
 use Rattle.dl_base.proofs.NamesLaws.{once_more}
 use Rattle.dl_base.proofs.Places.{get_left, get_last}
@@ -20,15 +20,7 @@ use Rattle.owl_syntax.specs.Trees.{iri, blank, digits, prefixed, literal}
 use Rattle.owl_read.specs.Builtins.{is_barred}
 use Rattle.owl_read.specs.Items.{Item, Single, Word, Group, line_of}
 use Rattle.owl_read.specs.Outcomes.{Refusal, ◌>>=◌}
-use Rattle.owl_read.specs.Scopes.{Naming, same_kind, most_terms, term, known, added, placed, numbered, term_named, resolved, name_at, property_at}
-
-abbrev pub Terms : Type 0
-Terms = List (List ℕ × Kind)
-
--- few terms, and no two of one name
-pub record IsSound (terms : Terms) : Type 0 where
-  pub once : AreNamedOnce (bare terms)
-  pub few : length terms ≤ most_terms
+use Rattle.owl_read.specs.Scopes.{Terms, IsSound, Naming, same_kind, most_terms, term, known, added, placed, numbered, term_named, resolved, name_at, property_at}
 
 -- the terms of the second are those of the first and further ones
 pub record Grows (s t : Naming) : Type 0 where

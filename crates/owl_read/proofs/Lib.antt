@@ -9,3 +9,4 @@ pub mod KeepLaws
 pub mod KeepPlaces
 pub mod KeepTable
 pub mod KeepRows
+pub mod DocumentLaws

@@ -10,7 +10,7 @@ use Rattle.std.proofs.lemmas.List.{append-nil}
 use Rattle.owl_syntax.specs.declared.nodes.Node.{Node, Word', Group', Iri, Prefixed, Blank, Digits, Literal', Row_of-Node, end_of-Node, more_of-Node}
 use Rattle.owl_syntax.specs.declared.nodes.Node.TheBlock.{items-the_row-Node}
 use Rattle.owl_syntax.specs.Trees.{Forest, none, attach, row_from, forest_from, forest_of}
-use Rattle.owl_read.specs.Items.{Item, Word, items_of, item_of}
+use Rattle.owl_read.specs.Items.{Item, Word, items_of, item_of, inside}
 
 pub items_attach : (before : Forest) (node : Node) → items_of (attach before node) ≡ items_of before ++ item_of node ∷ []
 items_attach before (Word' line text shape args) = refl
@@ -40,3 +40,7 @@ forest_items before (node ∷ nodes) = one_more before node nodes _ (forest_item
 -- a word of the code
 pub item_word : (node : Node) (line : ℕ) (text : Bor (List ℕ)) (args : Vec Node Global) → node ≡ declared.Word line text args → item_of node ≡ Word line text.now (forest_of args.items)
 item_word node line text args e = rw e (search (rules, the_lemmas, row_from_items))
+
+-- what stands inside a word of the code
+pub inside_word : (node : Node) (line : ℕ) (text : Bor (List ℕ)) (args : Vec Node Global) → node ≡ declared.Word line text args → inside (attach none node) ≡ map item_of args.items
+inside_word node line text args e = rw e (search (rules, the_lemmas, row_items))

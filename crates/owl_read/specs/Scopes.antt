@@ -1,12 +1,13 @@
 -- Names and terms: what a name stands for, and which term it becomes.
-use Rattle.std.specs.Prelude.{ℕ, List, [], ◌∷◌, ◌++◌, length, Bool, true, false, ◌&&◌, ◌||◌, ◌==◌, if◌then◌else◌, nat_lt, nat_le, Option, Some, None, Result, Ok, Err, position, slice_get}
+use Rattle.std.specs.Prelude.{◌≤◌, ℕ, List, [], ◌∷◌, ◌++◌, length, Bool, true, false, ◌&&◌, ◌||◌, ◌==◌, if◌then◌else◌, nat_lt, nat_le, Option, Some, None, Result, Ok, Err, position, slice_get}
 use Rattle.std.specs.List.{list_all}
 use Rattle.std.specs.Char.{is_ascii_alphabetic}
 use Rattle.std.specs.Str.{bytes_eq}
 use Rattle.dl_base.specs.declared.terms.Kind.{Kind}
 use Rattle.dl_base.specs.declared.terms.Kind.TheVariants as kinds
 use Rattle.dl_base.specs.declared.terms.Term.{Term}
-use Rattle.dl_base.specs.Vocabularies.{names_of}
+use Rattle.dl_base.specs.Ontologies.{AreNamedOnce}
+use Rattle.dl_base.specs.Vocabularies.{names_of, bare}
 use Rattle.dl_text.specs.Iris.{is_iri_byte, is_scheme_byte}
 use Rattle.dl_text.specs.Outcomes.{longest_iri}
 use Rattle.dl_text.specs.Prefixes.{Bindings, iri_of}
@@ -17,10 +18,22 @@ use Rattle.owl_read.specs.Builtins.{is_barred}
 use Rattle.owl_read.specs.Items.{Item, Single, Word, Group, line_of}
 use Rattle.owl_read.specs.Outcomes.{Refusal, ◌>>=◌}
 
+abbrev pub Terms : Type 0
+Terms = List (List ℕ × Kind)
+
+-- how many terms an ontology may have
+abbrev pub most_terms : ℕ
+most_terms = 4000
+
+-- few terms, and no two of one name
+pub record IsSound (terms : Terms) : Type 0 where
+  pub once : AreNamedOnce (bare terms)
+  pub few : length terms ≤ most_terms
+
 -- what names are read by: the prefixes, and the terms so far by number, each with its kind
 pub record Naming : Type 0 where
   pub prefixes : Bindings
-  pub terms : List (List ℕ × Kind)
+  pub terms : Terms
 
 -- scheme bytes and a colon, and anything behind them
 abbrev pub has_scheme : List ℕ → Bool
@@ -71,10 +84,6 @@ same_kind kinds.Role kinds.Role = true
 same_kind kinds.Attr kinds.Attr = true
 same_kind kinds.Note kinds.Note = true
 same_kind one other = false
-
--- how many terms an ontology may have
-abbrev pub most_terms : ℕ
-most_terms = 4000
 
 abbrev pub term : ℕ → Term
 term number = record { 0 = number }

@@ -1,6 +1,6 @@
-ghost use Rattle.std.specs.Prelude.{◌≡◌, [], IfOk};
+ghost use Rattle.std.specs.Prelude.{◌≡◌, [], IfOk, map};
 ghost use Rattle.dl_text.specs.Outcomes as texts;
-ghost use Rattle.owl_syntax.specs.Trees.{content_of};
+ghost use Rattle.owl_syntax.specs.Trees.{content_of, attach, none};
 ghost use Rattle.owl_read.specs.Documents.{bindings_of, start, Takes, Reads, ReadsOver, seen};
 ghost use Rattle.owl_read.specs.Held.{held};
 ghost use Rattle.owl_read.specs.Items.{item_of, inside};
@@ -30,4 +30,40 @@ fn bindings_of(alloc: Global, lines: &[PrefixLine]) -> Result<Prefixes, OutOfMem
         prefixes.set(line.name.as_slice(), &line.iri)?;
     }
     Ok(prefixes)
+}
+
+/// Takes the nodes from left to right.
+fn take_all(alloc: Global, reader: &mut Reader, nodes: &[Node<'_>]) -> Result<(), ReadRefusal>
+    requires { reader.old.axioms.items ≡ [] }
+    ensures { Takes (held reader.old) (map item_of nodes.now) (held reader.new) result }
+{
+    let mut restriction = Restriction::new(alloc);
+    for node in nodes {
+        let before = reader.axioms.as_slice().len();
+        reader.take(node)?;
+        if let Some(_) = restriction.first_from(reader.axioms.as_slice(), before)? {
+            return Err(refused(line_of(node), ReadKind::FunctionalSpecialised));
+        }
+    }
+    Ok(())
+}
+
+/// Takes the nodes inside the root.
+fn take_document(
+    alloc: Global,
+    reader: &mut Reader,
+    root: &Node<'_>,
+) -> Result<(), ReadRefusal>
+    requires { reader.old.axioms.items ≡ [] }
+    ensures { Takes (held reader.old) (inside (attach none root.now)) (held reader.new) result }
+{
+    match root {
+        Node::Word { args, .. } => take_all(alloc, reader, args),
+        Node::Group { .. } => Ok(()),
+        Node::Iri { .. } => Ok(()),
+        Node::Prefixed { .. } => Ok(()),
+        Node::Blank { .. } => Ok(()),
+        Node::Digits { .. } => Ok(()),
+        Node::Literal { .. } => Ok(()),
+    }
 }

@@ -1,9 +1,9 @@
-ghost use Rattle.std.specs.Prelude.{◌≡◌, IfOk, None, position};
+ghost use Rattle.std.specs.Prelude.{◌≡◌, IfOk, None, position, map};
 ghost use Rattle.std.specs.Str.{bytes_eq};
 ghost use Rattle.dl_base.specs.Vocabularies.{names_of};
 ghost use Rattle.owl_read.specs.Items.{item_of, line_of};
 ghost use Rattle.owl_read.specs.Outcomes.{Yields, Gives};
-ghost use Rattle.owl_read.specs.Scopes.{same_kind, resolved, name_at, is_name, added, numbered, term_named, property_at};
+ghost use Rattle.owl_read.specs.Scopes.{same_kind, resolved, name_at, is_name, added, numbered, term_named, property_at, IsSound};
 
 use crate::builtins::is_barred;
 use crate::nodes::line_of;
@@ -51,7 +51,51 @@ fn same_kind(one: Kind, other: Kind) -> bool
     }
 }
 
+/// The terms by their names.
+fn copied(
+    alloc: Global,
+    base: &[(Name, Kind)],
+) -> Result<IndexMap<Vec<u8>, Kind>, OutOfMemory>
+    requires { IsSound base.now }
+    ensures { IfOk result (λ terms. map (λ e. (e.0.items, e.1)) terms.entries ≡ base.now) }
+{
+    let mut terms = IndexMap::new(alloc);
+    for (name, kind) in base {
+        terms.insert(Vec::from_slice(alloc, name.as_slice())?, *kind)?;
+    }
+    Ok(terms)
+}
+
 impl Scope {
+    /// These prefixes, and these terms first, which are few and named once.
+    pub fn over(
+        alloc: Global,
+        prefixes: Prefixes,
+        base: &[(Name, Kind)],
+    ) -> Result<Scope, OutOfMemory>
+        requires { IsSound base.now }
+        ensures { IfOk result (λ scope. scope ≡ record { prefixes = prefixes; terms = base.now }) }
+    {
+        let terms = copied(alloc, base)?;
+        Ok(Scope {
+            alloc,
+            prefixes,
+            terms,
+            pool: NamePool::new(alloc),
+        })
+    }
+
+    /// The terms by number, each with its name and kind.
+    pub fn entries(&self) -> Result<Vec<(Name, Kind)>, OutOfMemory>
+        ensures { IfOk result (λ terms. terms.items ≡ self.now.terms) }
+    {
+        let mut terms = Vec::new(self.alloc);
+        for (name, kind) in self.terms.iter() {
+            terms.push((Name::of(self.alloc, name.as_slice())?, *kind))?;
+        }
+        Ok(terms)
+    }
+
     pub fn alloc(&self) -> Global {
         self.alloc
     }
