@@ -2,6 +2,7 @@ pub mod RunLaws
 pub mod NodeLaws
 pub mod RightLaws
 pub mod ScopeLaws
+pub mod TermsLaws
 pub mod LiteralLaws
 pub mod AnnotationLaws
 pub mod DifferentLaws

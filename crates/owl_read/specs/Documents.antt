@@ -13,7 +13,7 @@ use Rattle.dl_text.specs.declared.refusals.ReadRefusal.TheVariants.{Refused, Out
 use Rattle.owl_syntax.specs.declared.nodes.PrefixLine.{PrefixLine}
 use Rattle.owl_syntax.specs.Outcomes.{Parses}
 use Rattle.owl_syntax.specs.Trees.{Content}
-use Rattle.owl_read.specs.declared.documents.ReadOntology.{ReadOntology}
+use Rattle.owl_read.specs.declared.reading.ReadOntology.{ReadOntology}
 use Rattle.owl_read.specs.Items.{Item, inside, line_of}
 use Rattle.owl_read.specs.Outcomes.{Refusal, run}
 use Rattle.owl_read.specs.Rows.{Reading, taken}
@@ -56,19 +56,21 @@ Takes from items new (Err OutOfMemory) = Unit {0}
 abbrev pub theory_of : Reading → Theory
 theory_of reading = record { terms = reading.scope.terms; axioms = reading.axioms }
 
+-- what a document says over these terms, or the first refusal
+abbrev pub ReadsTo : List (List ℕ × Kind) → List ℕ → Result Reading ReadRefusal → Type 0
+ReadsTo terms bytes (Ok reading) = (content : Content) × Parses bytes (Ok content) × IsRead (start terms content) (inside content.root) reading
+ReadsTo terms bytes (Err (Refused line kind)) = Parses bytes (Err (Refused line kind)) ⊎ ((content : Content) × Parses bytes (Ok content) × IsRefusedAt (start terms content) (inside content.root) line kind)
+ReadsTo terms bytes (Err OutOfMemory) = Unit {0}
+
 -- reading an ontology: its theory, its assertions in order, repeats dropped, and how many were skipped; or the first refusal
 abbrev pub Reads : List ℕ → Result (Theory × List Fact × ℕ) ReadRefusal → Type 0
-Reads bytes (Ok (theory, facts, skipped)) = (content : Content) × Parses bytes (Ok content)
-    × ((reading : Reading) × IsRead (start [] content) (inside content.root) reading × (theory ≡ theory_of reading) × IsOnce reading.facts facts × (skipped ≡ reading.skipped))
-Reads bytes (Err (Refused line kind)) = Parses bytes (Err (Refused line kind)) ⊎ ((content : Content) × Parses bytes (Ok content) × IsRefusedAt (start [] content) (inside content.root) line kind)
-Reads bytes (Err OutOfMemory) = Unit {0}
+Reads bytes (Ok (theory, facts, skipped)) = (reading : Reading) × ReadsTo [] bytes (Ok reading) × (theory ≡ theory_of reading) × IsOnce reading.facts facts × (skipped ≡ reading.skipped)
+Reads bytes (Err refusal) = ReadsTo [] bytes (Err refusal)
 
 -- reading an ontology over these terms, which come first: no facts, and each assertion is skipped
 abbrev pub ReadsOver : List (List ℕ × Kind) → List ℕ → Result (Theory × List Fact × ℕ) ReadRefusal → Type 0
-ReadsOver terms bytes (Ok (theory, facts, skipped)) = (content : Content) × Parses bytes (Ok content)
-    × ((reading : Reading) × IsRead (start terms content) (inside content.root) reading × (theory ≡ theory_of reading) × (facts ≡ []) × (skipped ≡ reading.skipped + length reading.facts))
-ReadsOver terms bytes (Err (Refused line kind)) = Parses bytes (Err (Refused line kind)) ⊎ ((content : Content) × Parses bytes (Ok content) × IsRefusedAt (start terms content) (inside content.root) line kind)
-ReadsOver terms bytes (Err OutOfMemory) = Unit {0}
+ReadsOver terms bytes (Ok (theory, facts, skipped)) = (reading : Reading) × ReadsTo terms bytes (Ok reading) × (theory ≡ theory_of reading) × (facts ≡ []) × (skipped ≡ reading.skipped + length reading.facts)
+ReadsOver terms bytes (Err refusal) = ReadsTo terms bytes (Err refusal)
 
 -- what was read, as contracts see it
 abbrev pub seen : {E : Type 0} → Result ReadOntology E → Result (Theory × List Fact × ℕ) E

@@ -15,9 +15,12 @@ mod literals;
 mod nodes;
 mod outcomes;
 mod reader;
+mod reading;
 mod rights;
 mod role_axioms;
 mod roles;
 mod scope;
 mod sides;
 mod table;
+
+pub use reading::{ReadOntology, read_ontology, read_ontology_over};

@@ -90,7 +90,10 @@ impl Scope {
         ensures { IfOk result (λ terms. terms.items ≡ self.now.terms) }
     {
         let mut terms = Vec::new(self.alloc);
-        for (name, kind) in self.terms.iter() {
+        for place in 0..self.terms.len() {
+            let Some((name, kind)) = self.terms.get_index(place) else {
+                return Err(OutOfMemory);
+            };
             terms.push((Name::of(self.alloc, name.as_slice())?, *kind))?;
         }
         Ok(terms)
