@@ -1,9 +1,9 @@
 -- Annotations in front, one after another.
-use Rattle.std.proofs.Common.{◌≡◌, ℕ, Bool, true, false, cond, List, [], ◌∷◌, ◌++◌, Option, Some, None, Result, Ok, Err, refl, sym, ◌∙◌, ap}
+use Rattle.std.proofs.Common.{◌≡◌, ℕ, Bool, true, false, List, [], ◌∷◌, ◌++◌, Some, Result, Ok, Err, refl, sym, ◌∙◌, ap}
 use Rattle.std.specs.Prelude.{map, if◌then◌else◌}
 use Rattle.owl_syntax.specs.declared.nodes.Node.{Node}
 use Rattle.owl_syntax.specs.Trees.{Forest, none, leaf, word, group, forest_of}
-use Rattle.owl_read.specs.Annotations.{behind, annotation_of, front_by, front_behind, front_at, annotations_in, annotations_at}
+use Rattle.owl_read.specs.Annotations.{front_by, front_at, annotations_in, annotations_at}
 use Rattle.owl_read.specs.Items.{Item, Single, Word, Group, items_of, item_of}
 use Rattle.owl_read.specs.Outcomes.{Refusal, ◌>>=◌, run}
 use Rattle.owl_read.specs.Scopes.{Naming}

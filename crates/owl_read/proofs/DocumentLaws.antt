@@ -1,7 +1,7 @@
 -- Reading the nodes of a document one after another.
-use Rattle.std.proofs.Common.{◌≡◌, ℕ, ◌<◌, ◌≤◌, ◌+◌, List, [], ◌∷◌, ◌++◌, Result, Ok, Err, length, take, drop, get_or, map, refl, sym, ◌∙◌, ap, subst, append_assoc, arith, inl, inr, ◌⊎◌, ⊎_elim}
+use Rattle.std.proofs.Common.{◌≡◌, ℕ, ◌<◌, ◌≤◌, ◌+◌, List, [], ◌∷◌, ◌++◌, Result, Ok, Err, length, take, drop, get_or, map, refl, sym, ◌∙◌, ap, subst, arith, inl, inr, ⊎_elim}
 use Rattle.std.specs.Prelude.{All, Contains, slice_get, Some}
-use Rattle.std.proofs.lemmas.List.{append-nil, length-append, take-append-drop, map-append}
+use Rattle.std.proofs.lemmas.List.{length-append, take-append-drop, map-append}
 use Rattle.std.proofs.lemmas.List.Elements.{All-nil, All-append, All-weaker, Contains-append_left}
 use Rattle.std.proofs.Math.Seq.{take-append_seam}
 use Rattle.dl_base.specs.declared.axioms.Axiom.{Axiom}
@@ -18,18 +18,19 @@ use Rattle.dl_base.specs.declared.statements.Fact.{Fact}
 use Rattle.dl_base.specs.declared.terms.Kind.{Kind}
 use Rattle.dl_base.specs.Derivation.{inverse}
 use Rattle.dl_base.specs.Ontologies.{Theory, IsTerm, Knows, KnowsRole, KnowsConcept, KnowsAxiom}
-use Rattle.dl_base.specs.Validity.{IsFunctional, IsValid, IsOntology}
-use Rattle.dl_base.specs.Vocabularies.{bare, IsRefused}
+use Rattle.dl_base.specs.Validity.{IsValid, IsOntology}
+use Rattle.dl_base.specs.Vocabularies.{bare}
 use Rattle.dl_text.specs.declared.kinds.ReadKind.{ReadKind}
 use Rattle.dl_text.specs.declared.refusals.ReadRefusal.{ReadRefusal}
 use Rattle.dl_text.specs.declared.refusals.ReadRefusal.TheVariants.{Refused, OutOfMemory}
 use Rattle.owl_syntax.specs.declared.nodes.Node.{Node}
-use Rattle.owl_read.specs.Documents.{IsRead, IsRefusedBy, IsRefusedAt, Takes, theory_of}
-use Rattle.owl_read.specs.Items.{Item, item_of, line_of}
+use Rattle.owl_syntax.specs.Trees.{Content}
+use Rattle.owl_read.specs.Documents.{start, IsRead, IsRefusedBy, IsRefusedAt, Takes, theory_of, ReadsTo}
+use Rattle.owl_read.specs.Items.{Item, item_of, inside}
 use Rattle.owl_read.specs.Outcomes.{Refusal, ◌>>=◌, run, Fails}
 use Rattle.owl_read.specs.Rows.{Reading, taken}
-use Rattle.owl_read.specs.Scopes.{IsSound, Naming}
-use Rattle.owl_read.proofs.KeepLaws.{Grows}
+use Rattle.owl_read.specs.Scopes.{IsSound}
+use Rattle.owl_read.proofs.KeepLaws.{Grows, grows_not, grows_on}
 use Rattle.owl_read.proofs.KeepRows.{Kept, KeepsReading, taken_keeps}
 use Rattle.owl_read.proofs.KeepTable.{AxiomIn, AxiomsIn, FactIn, axioms_stay, facts_stay}
 use Rattle.dl_base.proofs.VocabularyLaws.{take_on}
@@ -170,3 +171,26 @@ module _ (nodes : List Node) (i : ℕ) (x : Node) (within : i < length nodes) (i
 
     pub on_here : (q : Reading) → taken r (item_of x) ≡ Ok q → IsValid q.axioms → IsRead from (map item_of (take (i + 1) nodes)) q
     on_here q e v = subst (λ (items : List Item). IsRead from items q) (sym items_more) (read_more from r q Before (item_of x) read e v)
+
+-- what stands at the start holds
+pub holds_start : (terms : List (List ℕ × Kind)) (content : Content) → IsSound terms → Holds (start terms content)
+holds_start terms content h = record { sound = h; axioms = All-nil (AxiomIn (start terms content).scope); facts = All-nil (FactIn (start terms content).scope) }
+
+pub nothing_sound : IsSound []
+nothing_sound = record { once = λ i j s t l e f. cc; few = omega arith }
+
+pub reads_holds : (terms : List (List ℕ × Kind)) (bytes : List ℕ) (reading : Reading) → IsSound terms → ReadsTo terms bytes (Ok reading) → Holds reading × IsValid reading.axioms
+reads_holds terms bytes reading h (content, parses, read) = (holds_run (inside content.root) (start terms content) reading (holds_start terms content h) read.runs, read.valid)
+
+grows_by : (r q : Reading) (items : List Item) (res : Result Reading Refusal) → KeepsReading r res → ((p : Reading) → run taken p items ≡ Ok q → Grows p.scope q.scope)
+    → (res >>= λ p. run taken p items) ≡ Ok q → Grows r.scope q.scope
+grows_by r q items (Ok p) k on e = grows_on r.scope p.scope q.scope k.grows (on p e)
+grows_by r q items (Err x) k on e = cc
+
+grows_run : (items : List Item) (r q : Reading) → run taken r items ≡ Ok q → Grows r.scope q.scope
+grows_run [] r q e = subst (λ (p : Reading). Grows r.scope p.scope) (let same : r ≡ q = cc in same) (grows_not r.scope)
+grows_run (item ∷ items) r q e = grows_by r q items (taken r item) (taken_keeps r item) (λ p f. grows_run items p q f) e
+
+-- the terms of the base come first
+pub reads_extends : (terms : List (List ℕ × Kind)) (bytes : List ℕ) (reading : Reading) → ReadsTo terms bytes (Ok reading) → (later : List (List ℕ × Kind)) × (reading.scope.terms ≡ terms ++ later)
+reads_extends terms bytes reading (content, parses, read) = let g = grows_run (inside content.root) (start terms content) reading read.runs in (g.later, g.is)

@@ -1,16 +1,15 @@
 -- What reading keeps: terms stand once and are few, and what is read is over them.
-use Rattle.std.proofs.Common.{◌≡◌, ◌≢◌, ℕ, zero, suc, ◌<◌, ◌≤◌, ◌+◌, Bool, true, false, cond, not, List, [], ◌∷◌, ◌++◌, Option, Some, None, Result, Ok, Err, length, map, position, refl, sym, ◌∙◌, ap, subst, append_assoc, arith}
-use Rattle.std.specs.Prelude.{slice_get, nat_lt, All}
+use Rattle.std.proofs.Common.{◌≡◌, ℕ, zero, suc, ◌<◌, ◌≤◌, ◌+◌, Bool, true, false, cond, not, List, [], ◌∷◌, ◌++◌, Option, Some, None, Result, Ok, Err, length, position, refl, sym, ◌∙◌, ap, subst, append_assoc, arith}
+use Rattle.std.specs.Prelude.{slice_get, nat_lt}
 use Rattle.std.specs.List.{position_or_len}
 use Rattle.std.specs.Str.{bytes_eq}
 use Rattle.std.specs.Cmp.Lexicographic.{other_text}
 use Rattle.std.proofs.lemmas.Bool.{false≢true, ltb-true, ltb-false}
 use Rattle.std.proofs.lemmas.List.{append-nil, length-append}
-use Rattle.std.proofs.lemmas.List.Elements.{All-nil, All-cons}
 use Rattle.dl_base.specs.declared.terms.Kind.{Kind}
 use Rattle.dl_base.specs.declared.terms.Kind.TheVariants as kinds
 use Rattle.dl_base.specs.declared.terms.Term.{Term}
-use Rattle.dl_base.specs.Ontologies.{Theory, IsTerm}
+use Rattle.dl_base.specs.Ontologies.{IsTerm}
 use Rattle.dl_base.specs.Vocabularies.{names_of, bare}
 use Rattle.dl_base.proofs.NamesLaws.{once_more}
 use Rattle.dl_base.proofs.Places.{get_left, get_last}
@@ -20,7 +19,7 @@ use Rattle.owl_syntax.specs.Trees.{iri, blank, digits, prefixed, literal}
 use Rattle.owl_read.specs.Builtins.{is_barred}
 use Rattle.owl_read.specs.Items.{Item, Single, Word, Group, line_of}
 use Rattle.owl_read.specs.Outcomes.{Refusal, ◌>>=◌}
-use Rattle.owl_read.specs.Scopes.{Terms, IsSound, Naming, same_kind, most_terms, term, known, added, placed, numbered, term_named, resolved, name_at, property_at}
+use Rattle.owl_read.specs.Scopes.{Terms, IsSound, Naming, same_kind, most_terms, term, known, placed, numbered, term_named, resolved, name_at, property_at}
 
 -- the terms of the second are those of the first and further ones
 pub record Grows (s t : Naming) : Type 0 where

@@ -1,5 +1,5 @@
 -- What reading keeps at each place.
-use Rattle.std.proofs.Common.{◌≡◌, ℕ, Bool, true, false, cond, List, [], ◌∷◌, ◌++◌, Option, Some, None, Result, Ok, Err, length, refl, sym, ◌∙◌, ap, subst}
+use Rattle.std.proofs.Common.{ℕ, List, [], ◌∷◌, Option, Some, None, Result, Ok, Err, length}
 use Rattle.std.specs.Prelude.{All, codes, nat_le}
 use Rattle.std.specs.Str.{bytes_eq}
 use Rattle.std.proofs.lemmas.List.Elements.{All-nil, All-cons, All-weaker, All-append}
@@ -9,7 +9,6 @@ use Rattle.dl_base.specs.declared.terms.Basic.TheVariants as basic
 use Rattle.dl_base.specs.declared.terms.Kind.TheVariants as kinds
 use Rattle.dl_base.specs.declared.terms.RoleSide.{RoleSide}
 use Rattle.dl_base.specs.declared.terms.RoleSide.TheVariants.{Direct, Inverse}
-use Rattle.dl_base.specs.declared.terms.Term.{Term}
 use Rattle.dl_base.specs.Ontologies.{KnowsRole, KnowsConcept}
 use Rattle.dl_base.specs.Vocabularies.{bare}
 use Rattle.dl_text.specs.declared.kinds.ReadKind.TheVariants as refused
@@ -25,12 +24,12 @@ use Rattle.owl_read.specs.declared.sides.Side.{Side}
 use Rattle.owl_read.specs.declared.sides.Side.TheVariants as sides
 use Rattle.owl_read.specs.Builtins.{iri_of, is_builtin}
 use Rattle.owl_read.specs.Concepts.{class_named, class_at, some_partner, some_value, existential_at, concept_of, concept_by, concept_at, basic_of, basic_at, left_of, left_at, related, partner_in, complement_of, parts_of, single_right, named_right, word_right, right_by, right_with, rights_in, right_at}
-use Rattle.owl_read.specs.Items.{Item, Single, Word, Group, word_in, items_of, line_of}
-use Rattle.owl_read.specs.Literals.{canonical, datatype_at, literal_at, undone, value_of, valued}
+use Rattle.owl_read.specs.Items.{Item, Single, Word, Group, word_in, line_of}
+use Rattle.owl_read.specs.Literals.{datatype_at, literal_at, value_of, valued}
 use Rattle.owl_read.specs.Outcomes.{Refusal, ◌>>=◌, with_front}
 use Rattle.owl_read.specs.Places.{inverse_of, role_by, role_at, attr_at}
 use Rattle.owl_read.specs.Scopes.{Naming, name_at, is_name, term_named, property_at, resolved}
-use Rattle.owl_read.proofs.KeepLaws.{Grows, grows_not, grows_on, term_stays, Keeps, keeps_then, keeps_if, Anything, OfKind, same_scope, term_keeps, name_keeps, property_keeps}
+use Rattle.owl_read.proofs.KeepLaws.{Grows, grows_not, term_stays, Keeps, keeps_then, keeps_if, Anything, OfKind, same_scope, term_keeps, name_keeps, property_keeps}
 
 abbrev pub KnowsRoleIn : Naming → RoleSide → Type 0
 KnowsRoleIn s q = KnowsRole (bare s.terms) q

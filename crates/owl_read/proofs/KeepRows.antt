@@ -1,10 +1,10 @@
 -- What reading a document keeps: what is read is an ontology, and its assertions are over it.
-use Rattle.std.proofs.Common.{◌≡◌, ℕ, Bool, true, false, cond, List, [], ◌∷◌, ◌++◌, Option, Some, None, Result, Ok, Err, length, refl, sym, ◌∙◌, ap, subst, append_assoc}
-use Rattle.std.specs.Prelude.{All, nat_lt, ◌+◌}
+use Rattle.std.proofs.Common.{◌≡◌, ℕ, Bool, true, false, cond, List, [], ◌∷◌, ◌++◌, Option, Some, None, Result, Ok, Err, length, refl, sym}
+use Rattle.std.specs.Prelude.{All, nat_lt}
 use Rattle.std.specs.List.{list_any}
 use Rattle.std.specs.Str.{bytes_eq}
 use Rattle.std.proofs.lemmas.List.{append-nil}
-use Rattle.std.proofs.lemmas.List.Elements.{All-nil, All-cons, All-append}
+use Rattle.std.proofs.lemmas.List.Elements.{All-nil, All-cons}
 use Rattle.dl_base.specs.declared.axioms.Axiom.{Axiom}
 use Rattle.dl_base.specs.declared.axioms.Axiom.TheVariants.{RoleIn, RoleApart, FunctionalRole, FunctionalAttr}
 use Rattle.dl_base.specs.declared.names.Value.{Value}
@@ -45,14 +45,14 @@ use Rattle.owl_read.specs.Concepts.{class_at, left_at, right_at}
 use Rattle.owl_read.specs.Forms.{form_of, entity_of}
 use Rattle.owl_read.specs.Items.{Item, Single, Word, Group, word_in, items_of, line_of}
 use Rattle.owl_read.specs.Literals.{literal_at}
-use Rattle.owl_read.specs.Outcomes.{Refusal, ◌>>=◌, run}
+use Rattle.owl_read.specs.Outcomes.{Refusal, ◌>>=◌}
 use Rattle.owl_read.specs.Places.{role_at, attr_at, individual_at, iri_at}
 use Rattle.owl_read.specs.Rows.{Reading, moved, giving, asserting, skipping, side_at, sides_at, listed_at, equivalent, disjoint, sub_property, sub_class, class_row, inverse_row, limited_by, domain_row, range_row, one_role, role_row, attr_domain_row, attr_range_row, functional_attr_row, attr_row, asserted_class, in_class, class_fact, role_fact, object_fact, data_fact, different_at, different_row, fact_row, entity_named, entity_in, entity_by, entity_in_word, entity_at, declaration, note_assertion, note_pair, note_iri, note_row, form_row, row, taken_by, taken}
 use Rattle.owl_read.specs.Scopes.{Naming, name_at, term_named, property_at}
 use Rattle.owl_read.specs.Table.{included, ring, all_apart, limited, subclass, ranged}
 use Rattle.owl_read.proofs.KeepLaws.{Grows, grows_not, grows_on, Keeps, keeps_then, Anything, OfKind, term_keeps, name_keeps, property_keeps}
-use Rattle.owl_read.proofs.KeepPlaces.{KnowsRoleIn, KnowsBasic, KnowsClass, KnowsSide, KnowsPart, KnowsParts, role_stays, basic_stays, side_stays, role_keeps, class_keeps, left_keeps, right_keeps, literal_keeps}
-use Rattle.owl_read.proofs.KeepTable.{AxiomIn, AxiomsIn, FactIn, axioms_stay, facts_stay, no_axioms, one_axiom, both, inverse_known, included_known, ring_known, apart_all_known, limited_known, subclass_known, ranged_known}
+use Rattle.owl_read.proofs.KeepPlaces.{KnowsRoleIn, KnowsBasic, KnowsClass, KnowsSide, KnowsParts, role_stays, basic_stays, side_stays, role_keeps, class_keeps, left_keeps, right_keeps, literal_keeps}
+use Rattle.owl_read.proofs.KeepTable.{AxiomIn, AxiomsIn, FactIn, no_axioms, one_axiom, both, inverse_known, included_known, ring_known, apart_all_known, limited_known, subclass_known, ranged_known}
 
 -- where reading goes on, the terms grow
 abbrev pub KeepsTerms : Naming → Result Naming Refusal → Type 0

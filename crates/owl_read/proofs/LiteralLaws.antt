@@ -1,21 +1,20 @@
 -- The value of a literal, found by tests.
-use Rattle.std.proofs.Common.{◌≡◌, ◌≢◌, ℕ, ◌<◌, Bool, true, false, cond, List, [], ◌∷◌, Option, Some, None, Result, Ok, Err, length, refl, sym, ◌∙◌, ap, subst, inl, inr, ◌⊎◌, ⊎_elim}
-use Rattle.std.specs.Prelude.{map, codes, nat_lt, ◌&&◌, ◌||◌, IsTrue, All}
+use Rattle.std.proofs.Common.{◌≡◌, ◌≢◌, ℕ, Bool, true, false, cond, List, Option, Some, None, Ok, Err, length, refl, sym, ◌∙◌, ap, inl, inr, ◌⊎◌, ⊎_elim}
+use Rattle.std.specs.Prelude.{map, codes, nat_lt, ◌||◌}
 use Rattle.std.specs.Char.{is_ascii_digit, to_ascii_lowercase}
 use Rattle.std.specs.List.{list_all}
 use Rattle.std.specs.Str.{bytes_eq}
 use Rattle.std.specs.Cmp.Lexicographic.{same_text, other_text}
-use Rattle.std.proofs.lemmas.Bool.{false≢true, and_parts, and_from, or_cases, or_left, or_right, ltb-true, lt-ltb, cond-true, cond-false, true_from_ne_false, false_from_ne_true}
+use Rattle.std.proofs.lemmas.Bool.{and_parts, and_from, or_cases, or_left, or_right, ltb-true, lt-ltb, cond-true, cond-false, true_from_ne_false, false_from_ne_true}
 use Rattle.dl_base.specs.declared.names.Value.{Value}
-use Rattle.dl_text.specs.Literals.{datatype_of, IsYes, IsNo, IsTruth, Spells, integer, boolean, other, IsValueOf, ReadsValue}
+use Rattle.dl_text.specs.Literals.{datatype_of, IsTruth, Spells, integer, boolean, other, IsValueOf, ReadsValue}
 use Rattle.dl_text.specs.Namespaces.{xsd_integer, xsd_boolean}
 use Rattle.dl_text.specs.Values.{digits_of, IsInteger, integer_text}
 use Rattle.dl_text.specs.declared.faults.TextFault.{TextFault}
 use Rattle.dl_text.specs.declared.faults.TextFault.TheVariants as faults
-use Rattle.dl_text.specs.declared.kinds.ReadKind.TheVariants as kinds
 use Rattle.dl_text.proofs.LiteralLaws.{integer-boolean, spells_one}
 use Rattle.owl_read.specs.Literals.{undone, is_integer, is_yes, is_no, truth_of, canonical, valued, value_of}
-use Rattle.owl_read.specs.Outcomes.{Refusal, Fails, refusal_at}
+use Rattle.owl_read.specs.Outcomes.{Fails, refusal_at}
 use Rattle.owl_read.specs.Scopes.{Naming}
 use Rattle.owl_read.proofs.ScopeLaws.{all_forth, all_back}
 
@@ -74,7 +73,7 @@ some_canonical datatype text out (boolean e h) =
     let t = truth_back text out h in (
       t.0,
       cond-false (bytes_eq datatype xsd_integer) _ _ (bytes_differ datatype xsd_integer (λ s. integer-boolean (sym s ∙ e)))
-      ∙ cond-true (bytes_eq datatype xsd_boolean) _ _ (bytes_same datatype xsd_boolean e) ∙ t.1,
+          ∙ cond-true (bytes_eq datatype xsd_boolean) _ _ (bytes_same datatype xsd_boolean e) ∙ t.1,
     )
 some_canonical datatype text out (other n m e) = (
   text,

@@ -1,9 +1,8 @@
 -- Names and terms.
-use Rattle.std.proofs.Common.{◌≡◌, ℕ, ◌<◌, ◌≤◌, Bool, true, false, cond, List, [], ◌∷◌, ◌++◌, Option, Some, None, Result, Ok, Err, length, refl, sym, ◌∙◌, ap, subst, inl, inr, ⊎_elim, arith}
-use Rattle.std.specs.Prelude.{All, IsTrue, nat_le, nat_lt, ◌&&◌, ◌||◌, ◌==◌, ◌≢◌, ◌⊎◌, ◌↔◌}
+use Rattle.std.proofs.Common.{◌≡◌, ℕ, ◌<◌, ◌≤◌, Bool, true, false, cond, List, [], ◌∷◌, ◌++◌, Some, None, Result, Ok, Err, length, refl, sym, ◌∙◌, ap, ⊎_elim}
+use Rattle.std.specs.Prelude.{All, IsTrue, nat_le, nat_lt, ◌&&◌, ◌==◌}
 use Rattle.std.specs.Prelude.{Vec, map, position, slice_get}
 use Rattle.std.specs.Option.{option_map}
-use Rattle.std.specs.Map.{keys_of}
 use Rattle.std.specs.List.{position_or_len}
 use Rattle.std.specs.Prelude.{not, ◌+◌}
 use Rattle.std.proofs.lemmas.List.{length-map, map-append}
@@ -21,10 +20,10 @@ use Rattle.dl_text.proofs.IriLaws.{has_more, has_now, has_less, has_none}
 use Rattle.dl_text.specs.declared.kinds.ReadKind.TheVariants as kinds
 use Rattle.dl_text.specs.Iris.{is_iri_byte, is_scheme_byte, HasScheme, IsAbsolute, IsIri}
 use Rattle.dl_text.specs.Outcomes.{longest_iri}
-use Rattle.dl_text.specs.Prefixes.{Bindings, iri_of, Expands, Resolves}
+use Rattle.dl_text.specs.Prefixes.{Bindings, Expands, Resolves}
 use Rattle.dl_text.specs.declared.faults.TextFault.{TextFault}
 use Rattle.dl_text.specs.declared.faults.TextFault.TheVariants as faults
-use Rattle.owl_read.specs.Outcomes.{Refusal, Yields, Fails, refusal_at}
+use Rattle.owl_read.specs.Outcomes.{Refusal, Fails, refusal_at}
 use Rattle.owl_read.specs.Scopes.{Naming, has_scheme, is_absolute, is_iri, named, expanded, resolved, same_kind, term, known, added, placed, numbered, most_terms}
 
 -- a name or the refusal that its fault leads to

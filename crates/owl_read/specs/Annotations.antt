@@ -3,7 +3,7 @@ use Rattle.std.specs.Prelude.{ℕ, List, [], ◌∷◌, codes, Bool, true, false
 use Rattle.std.specs.Str.{bytes_eq}
 use Rattle.dl_base.specs.declared.terms.Kind.TheVariants as kinds
 use Rattle.dl_text.specs.declared.kinds.ReadKind.TheVariants.{Syntax}
-use Rattle.owl_syntax.specs.Trees.{Forest, none, leaf, word, group, iri, blank, digits, prefixed, literal}
+use Rattle.owl_syntax.specs.Trees.{Forest, none, leaf, word, group, blank, literal}
 use Rattle.owl_read.specs.Builtins.{is_fixed_note}
 use Rattle.owl_read.specs.Items.{Item, Single, Word, Group, items_of, word_in, line_of}
 use Rattle.owl_read.specs.Literals.{literal_at}

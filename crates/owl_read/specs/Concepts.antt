@@ -1,11 +1,10 @@
 -- Class expressions at their places.
-use Rattle.std.specs.Prelude.{ℕ, List, [], ◌∷◌, ◌++◌, codes, length, nat_le, if◌then◌else◌, Option, Some, None, Result, Ok, Err}
+use Rattle.std.specs.Prelude.{ℕ, List, [], ◌∷◌, codes, length, nat_le, if◌then◌else◌, Option, Some, None, Result, Ok, Err}
 use Rattle.std.specs.Str.{bytes_eq}
 use Rattle.dl_base.specs.declared.terms.Basic.{Basic}
 use Rattle.dl_base.specs.declared.terms.Basic.TheVariants as basic
 use Rattle.dl_base.specs.declared.terms.Kind.TheVariants as kinds
 use Rattle.dl_base.specs.declared.terms.RoleSide.{RoleSide}
-use Rattle.dl_base.specs.declared.terms.Term.{Term}
 use Rattle.dl_text.specs.declared.kinds.ReadKind.TheVariants.{NotDlLite, Syntax}
 use Rattle.owl_syntax.specs.Trees.{Forest, none, leaf, word, group}
 use Rattle.owl_read.specs.declared.builtins.Builtin.TheVariants as builtins
@@ -18,7 +17,7 @@ use Rattle.owl_read.specs.declared.sides.Part.TheVariants.{Within, Related, Outs
 use Rattle.owl_read.specs.declared.sides.Side.{Side}
 use Rattle.owl_read.specs.declared.sides.Side.TheVariants as sides
 use Rattle.owl_read.specs.Builtins.{iri_of, is_builtin}
-use Rattle.owl_read.specs.Items.{Item, Single, Word, Group, items_of, word_in, line_of}
+use Rattle.owl_read.specs.Items.{Item, Single, Word, Group, word_in, line_of}
 use Rattle.owl_read.specs.Outcomes.{Refusal, ◌>>=◌, with_front}
 use Rattle.owl_read.specs.Places.{role_at, attr_at}
 use Rattle.owl_read.specs.Scopes.{Naming, name_at, is_name, term_named}

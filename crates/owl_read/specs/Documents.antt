@@ -15,7 +15,7 @@ use Rattle.owl_syntax.specs.Outcomes.{Parses}
 use Rattle.owl_syntax.specs.Trees.{Content}
 use Rattle.owl_read.specs.declared.reading.ReadOntology.{ReadOntology}
 use Rattle.owl_read.specs.Items.{Item, inside, line_of}
-use Rattle.owl_read.specs.Outcomes.{Refusal, run}
+use Rattle.owl_read.specs.Outcomes.{run}
 use Rattle.owl_read.specs.Rows.{Reading, taken}
 
 -- the standard prefixes, and those of the document's lines, which replace them

@@ -1,5 +1,5 @@
 -- The value at a place of a literal.
-use Rattle.std.specs.Prelude.{ℕ, ◌<◌, List, [], ◌∷◌, length, map, codes, Bool, true, false, not, ◌&&◌, ◌||◌, ◌==◌, if◌then◌else◌, nat_lt, Option, Some, None, Result, Ok, Err}
+use Rattle.std.specs.Prelude.{ℕ, List, [], ◌∷◌, length, map, codes, Bool, true, false, not, ◌&&◌, ◌||◌, ◌==◌, if◌then◌else◌, nat_lt, Option, Some, None, Result, Ok, Err}
 use Rattle.std.specs.Char.{is_ascii_digit, to_ascii_lowercase}
 use Rattle.std.specs.List.{list_all}
 use Rattle.std.specs.Str.{bytes_eq}
@@ -8,8 +8,8 @@ use Rattle.dl_text.specs.Literals.{datatype_of}
 use Rattle.dl_text.specs.Namespaces.{xsd_integer, xsd_boolean}
 use Rattle.dl_text.specs.Values.{digits_of, integer_text}
 use Rattle.dl_text.specs.declared.kinds.ReadKind.TheVariants.{BadLiteral, Syntax}
-use Rattle.owl_syntax.specs.Trees.{Datatype, untyped, other, by_iri, by_name, iri, blank, digits, prefixed, literal}
-use Rattle.owl_read.specs.Items.{Item, Single, Word, Group, line_of}
+use Rattle.owl_syntax.specs.Trees.{Datatype, untyped, other, by_iri, by_name, literal}
+use Rattle.owl_read.specs.Items.{Item, Single, line_of}
 use Rattle.owl_read.specs.Outcomes.{Refusal, ◌>>=◌}
 use Rattle.owl_read.specs.Scopes.{Naming, resolved, name_at}
 

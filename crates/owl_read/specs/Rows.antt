@@ -1,5 +1,5 @@
 -- What each axiom of a document means, by its form: its places from left to right, and then what it gives.
-use Rattle.std.specs.Prelude.{ℕ, ◌+◌, List, [], ◌∷◌, ◌++◌, Bool, true, false, if◌then◌else◌, Option, Some, None, Result, Ok, Err}
+use Rattle.std.specs.Prelude.{ℕ, ◌+◌, List, [], ◌∷◌, ◌++◌, if◌then◌else◌, Option, Some, None, Result, Ok, Err}
 use Rattle.std.specs.List.{list_any}
 use Rattle.std.specs.Str.{bytes_eq}
 use Rattle.dl_base.specs.declared.axioms.Axiom.{Axiom}
@@ -42,7 +42,7 @@ use Rattle.owl_read.specs.Literals.{literal_at}
 use Rattle.owl_read.specs.Outcomes.{Refusal, ◌>>=◌}
 use Rattle.owl_read.specs.Places.{role_at, attr_at, individual_at, iri_at}
 use Rattle.owl_read.specs.Scopes.{Naming, property_at}
-use Rattle.owl_read.specs.Table.{included, apart, ring, all_apart, limited, subclass, ranged}
+use Rattle.owl_read.specs.Table.{included, ring, all_apart, limited, subclass, ranged}
 
 -- what a document has said so far: its terms, its axioms and its assertions in order, and how many were skipped
 pub record Reading : Type 0 where

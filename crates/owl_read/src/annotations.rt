@@ -111,12 +111,7 @@ impl Scope {
     /// The same for a word.
     #[cycle(annotations)]
     #[tactic(auto, unfolding(crate::specs::Annotations::annotation_at))]
-    fn word_front(
-        &mut self,
-        line: u64,
-        text: &[u8],
-        args: &[Node<'_>],
-    ) -> Result<bool, ReadRefusal>
+    fn word_front(&mut self, line: u64, text: &[u8], args: &[Node<'_>]) -> Result<bool, ReadRefusal>
         ensures { Gives self.new result (front_by (λ t. annotations_at t (map item_of args.now)) self.old (Some (line, text.now, map item_of args.now))) }
     {
         if text != b"Annotation".as_slice() {

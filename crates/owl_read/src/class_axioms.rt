@@ -29,12 +29,7 @@ impl Reader {
 
     /// Each two of two or more are disjoint.
     #[tactic(auto, unfolding(crate::specs::Rows::disjoint))]
-    pub fn disjoint(
-        &mut self,
-        sort: Sort,
-        line: u64,
-        args: &[Node<'_>],
-    ) -> Result<(), ReadRefusal>
+    pub fn disjoint(&mut self, sort: Sort, line: u64, args: &[Node<'_>]) -> Result<(), ReadRefusal>
         ensures { Does (held self.new) result (disjoint sort (held self.old) line (map item_of args.now)) }
     {
         let sides = self.scope.listed(sort, line, args)?;

@@ -38,12 +38,7 @@ impl Scope {
         Ok(())
     }
 
-    fn entity_in(
-        &mut self,
-        line: u64,
-        entity: Entity,
-        args: &[Node<'_>],
-    ) -> Result<(), ReadRefusal>
+    fn entity_in(&mut self, line: u64, entity: Entity, args: &[Node<'_>]) -> Result<(), ReadRefusal>
         ensures { Does self.new result (entity_in self.old line entity (map item_of args.now)) }
     {
         match args {
@@ -110,12 +105,7 @@ impl Scope {
 
     /// A declaration, or what has no meaning for facts.
     #[tactic(auto, unfolding(crate::specs::Rows::note_row))]
-    pub fn noted(
-        &mut self,
-        form: NoteForm,
-        line: u64,
-        args: &[Node<'_>],
-    ) -> Result<(), ReadRefusal>
+    pub fn noted(&mut self, form: NoteForm, line: u64, args: &[Node<'_>]) -> Result<(), ReadRefusal>
         ensures { Does self.new result (note_row form self.old line (map item_of args.now)) }
     {
         match form {

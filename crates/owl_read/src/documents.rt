@@ -40,11 +40,7 @@ fn take_all(alloc: Global, reader: &mut Reader, nodes: &[Node<'_>]) -> Result<()
 }
 
 /// Takes the nodes inside the root.
-pub fn take_document(
-    alloc: Global,
-    reader: &mut Reader,
-    root: &Node<'_>,
-) -> Result<(), ReadRefusal>
+pub fn take_document(alloc: Global, reader: &mut Reader, root: &Node<'_>) -> Result<(), ReadRefusal>
     requires { reader.old.axioms.items ≡ [] }
     ensures { Takes (held reader.old) (inside (attach none root.now)) (held reader.new) result }
 {

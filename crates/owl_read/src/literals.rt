@@ -5,9 +5,9 @@ ghost use Rattle.owl_read.specs.Items.{item_of};
 ghost use Rattle.owl_read.specs.Literals.{undone, value_of, datatype_at, literal_at};
 ghost use Rattle.owl_read.specs.Outcomes.{Gives};
 
+use crate::nodes::line_of;
 use crate::outcomes::{refusal_at, refused};
 use crate::scope::Scope;
-use crate::nodes::line_of;
 use dl_base::{Name, OutOfMemory, Value};
 use dl_text::{ReadKind, ReadRefusal, canonical_value};
 use owl_syntax::Node;

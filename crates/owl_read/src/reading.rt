@@ -36,11 +36,7 @@ fn read(alloc: Global, bytes: &[u8], base: &[(Name, Kind)]) -> Result<Reader, Re
 }
 
 /// The ontology of terms and axioms that are known to make one.
-fn made(
-    alloc: Global,
-    scope: &Scope,
-    axioms: Vec<Axiom>,
-) -> Result<Ontology, OutOfMemory>
+fn made(alloc: Global, scope: &Scope, axioms: Vec<Axiom>) -> Result<Ontology, OutOfMemory>
     requires { IsOntology (record { terms = scope.now.terms; axioms = axioms.items }) }
     ensures { IfOk result (λ it. it ≡ record { terms = scope.now.terms; axioms = axioms.items }) }
 {

@@ -72,11 +72,7 @@ impl Scope {
 
     #[tactic(auto, unfolding(crate::specs::Concepts::named_right))]
     /// A right side that is `owl:Thing`, `owl:Nothing` or a class.
-    fn named_right(
-        &mut self,
-        node: &Node<'_>,
-        parts: &mut Vec<Part>,
-    ) -> Result<(), ReadRefusal>
+    fn named_right(&mut self, node: &Node<'_>, parts: &mut Vec<Part>) -> Result<(), ReadRefusal>
         ensures { Does (self.new, parts.new.items) result (with_front parts.old.items (named_right self.old (item_of node.now))) }
     {
         match self.concept(node)? {

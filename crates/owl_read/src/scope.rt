@@ -52,10 +52,7 @@ fn same_kind(one: Kind, other: Kind) -> bool
 }
 
 /// The terms by their names.
-fn copied(
-    alloc: Global,
-    base: &[(Name, Kind)],
-) -> Result<IndexMap<Vec<u8>, Kind>, OutOfMemory>
+fn copied(alloc: Global, base: &[(Name, Kind)]) -> Result<IndexMap<Vec<u8>, Kind>, OutOfMemory>
     requires { IsSound base.now }
     ensures { IfOk result (λ terms. map (λ e. (e.0.items, e.1)) terms.entries ≡ base.now) }
 {

@@ -128,11 +128,7 @@ fn give_parts(
 }
 
 /// The concept is within a right side of these parts.
-pub fn limit(
-    axioms: &mut Vec<Axiom>,
-    concept: Basic,
-    parts: &[Part],
-) -> Result<(), OutOfMemory>
+pub fn limit(axioms: &mut Vec<Axiom>, concept: Basic, parts: &[Part]) -> Result<(), OutOfMemory>
     ensures { OnOk result (axioms.new.items ≡ axioms.old.items ++ limited concept parts.now) }
 {
     give_parts(axioms, Pass::Within, concept, parts)?;
@@ -142,11 +138,7 @@ pub fn limit(
 }
 
 /// A left side is within a right side of these parts.
-pub fn include_parts(
-    axioms: &mut Vec<Axiom>,
-    left: Side,
-    parts: &[Part],
-) -> Result<(), OutOfMemory>
+pub fn include_parts(axioms: &mut Vec<Axiom>, left: Side, parts: &[Part]) -> Result<(), OutOfMemory>
     ensures { OnOk result (axioms.new.items ≡ axioms.old.items ++ subclass left parts.now) }
 {
     match left {

@@ -1,12 +1,10 @@
-use Rattle.std.proofs.Common.{◌≡◌, ◌<◌, ◌+◌, ◌∙◌, ℕ, List, Option, Some, None, Err, length, take, ap, sym, subst, arith, inr, refl}
+use Rattle.std.proofs.Common.{◌<◌, ℕ, Option, length, ap, sym, subst, arith, inr, refl}
 use Rattle.std.specs.Prelude.{MatchOption}
 use Rattle.std.proofs.lemmas.Result.{err_from_is_err_and}
-use Rattle.dl_base.specs.declared.axioms.Axiom.{Axiom}
 use Rattle.dl_base.specs.Validity.{IsValid}
 use Rattle.dl_base.specs.Vocabularies.{Notes, IsFirstSpecialised}
 use Rattle.owl_read.specs.Held.{held}
 use Rattle.owl_read.specs.Items.{item_of}
-use Rattle.owl_read.specs.Rows.{Reading}
 use Rattle.owl_read.proofs.DocumentLaws.{valid_take, taken_kept, front_axioms, front_within, fails_here, refused_here, on_here}
 use Rattle.owl_read.proofs.documents.take_all.Goals as goal
 
@@ -47,8 +45,7 @@ pub loop-node-preserved : goal.loop-node-preserved
 loop-node-preserved c =
     let within : c.loop-node.node-index < length c.args.nodes.now = omega (arith, c.loop-node-test.true) in
     let more = subst (λ (o : Option ℕ). MatchOption o (IsValid c.as_slice.result.now × Notes c.first_from.new.self c.as_slice.result.now) (IsFirstSpecialised c.as_slice.result.now)) c.in_default.is c.in_ok-first_from.ensures in
-    let valid = subst IsValid c.as_slice.ensures.value more.0 in
-    (
+    let valid = subst IsValid c.as_slice.ensures.value more.0 in (
       on_here c.args.nodes.now c.loop-node.node-index c.node-item.result within c.node-item.is (held c.args.reader.now) (held c.loop-node.reader) c.loop-node.invariant.0 (held c.take.new.self) c.in_ok-take.ensures valid,
       subst (Notes c.first_from.new.self) c.as_slice.ensures.value more.1,
     )

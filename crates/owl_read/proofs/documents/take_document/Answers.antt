@@ -1,5 +1,4 @@
 use Rattle.std.proofs.Common.{◌∙◌, List, ap, sym, subst, map}
-use Rattle.owl_syntax.specs.declared.nodes.Node.{Node}
 use Rattle.owl_read.specs.Documents.{Takes}
 use Rattle.owl_read.specs.Held.{held}
 use Rattle.owl_read.specs.Items.{Item, item_of}

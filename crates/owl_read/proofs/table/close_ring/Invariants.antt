@@ -1,4 +1,4 @@
-use Rattle.std.proofs.Common.{◌≡◌, ◌++◌, ◌∷◌, drop}
+use Rattle.std.proofs.Common.{◌≡◌, ◌++◌, drop}
 use Rattle.owl_read.specs.Table.{ring_from, ring}
 use Rattle.owl_read.proofs.table.close_ring.Given as goal
 

@@ -1,7 +1,7 @@
 use Rattle.std.proofs.Common.{◌∙◌, ap, sym, List}
 use Rattle.owl_syntax.specs.declared.nodes.Node.{Node}
 use Rattle.owl_syntax.specs.Trees.{forest_of}
-use Rattle.owl_read.specs.Items.{Item, Word, item_of}
+use Rattle.owl_read.specs.Items.{Word, item_of}
 use Rattle.owl_read.proofs.NodeLaws.{item_word}
 use Rattle.owl_read.proofs.AnnotationLaws.{front_word}
 use Rattle.owl_read.proofs.scope.Scope.+annotations.Goals as goal

@@ -1,7 +1,6 @@
-use Rattle.std.proofs.Common.{◌≡◌, ◌<◌, ◌≤◌, List, ℕ, Result, Ok, Err, None, position, length, arith, sym, subst, refl}
+use Rattle.std.proofs.Common.{◌≡◌, ◌<◌, ℕ, Ok, None, position, length, arith, sym, subst}
 use Rattle.std.specs.Str.{bytes_eq}
 use Rattle.dl_base.specs.Vocabularies.{names_of}
-use Rattle.owl_read.specs.Outcomes.{Refusal}
 use Rattle.owl_read.specs.Scopes.{Naming, added, term, most_terms}
 use Rattle.owl_read.proofs.ScopeLaws.{naming, added_fits}
 use Rattle.owl_read.proofs.scope.Scope.added.Goals as goal

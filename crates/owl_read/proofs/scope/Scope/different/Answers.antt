@@ -1,4 +1,4 @@
-use Rattle.std.proofs.Common.{◌≡◌, ◌<◌, ◌∷◌, [], ◌∙◌, ℕ, List, length, map, ap, sym, subst, arith}
+use Rattle.std.proofs.Common.{◌<◌, ◌∷◌, [], ◌∙◌, ℕ, length, map, ap, sym, subst, arith}
 use Rattle.dl_text.specs.declared.refusals.ReadRefusal.{ReadRefusal}
 use Rattle.dl_text.specs.declared.refusals.ReadRefusal.TheVariants.{Refused}
 use Rattle.dl_text.specs.declared.kinds.ReadKind.TheVariants.{NotDlLite}

@@ -1,4 +1,4 @@
-use Rattle.std.proofs.Common.{◌≡◌, ◌++◌, ◌∷◌, [], ◌∙◌, ap, sym, map, take}
+use Rattle.std.proofs.Common.{◌++◌, ◌∷◌, [], ◌∙◌, ap, sym, map, take}
 use Rattle.std.proofs.lemmas.List.{map-append}
 use Rattle.owl_read.proofs.ScopeLaws.{term_of}
 use Rattle.owl_read.proofs.TermsLaws.{take_here}

@@ -1,12 +1,11 @@
-use Rattle.std.proofs.Common.{◌≡◌, List, ℕ, Result, Ok, Err, None, position, cond, sym, ◌∙◌, ap, subst, refl}
+use Rattle.std.proofs.Common.{◌≡◌, Result, Ok, Err, None, position, cond, sym, ◌∙◌, subst}
 use Rattle.std.specs.Str.{bytes_eq}
 use Rattle.dl_base.specs.Vocabularies.{names_of}
 use Rattle.dl_text.specs.declared.kinds.ReadKind.TheVariants as kinds
-use Rattle.dl_text.specs.declared.refusals.ReadRefusal.{ReadRefusal}
 use Rattle.owl_read.specs.Outcomes.{Refusal, Gives}
 use Rattle.owl_read.specs.Scopes.{Naming, same_kind, numbered, term, added}
 use Rattle.std.proofs.lemmas.Bool.{cond-true, cond-false}
-use Rattle.owl_read.proofs.ScopeLaws.{naming, place_is, numbered_known, numbered_new}
+use Rattle.owl_read.proofs.ScopeLaws.{place_is, numbered_known, numbered_new}
 use Rattle.owl_read.proofs.scope.Scope.numbered.Goals as goal
 use Rattle.owl_read.proofs.scope.Scope.numbered.Goals.{then-same_kind, else-same_kind}
 

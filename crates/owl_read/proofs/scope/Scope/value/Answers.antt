@@ -1,6 +1,6 @@
-use Rattle.std.proofs.Common.{◌≡◌, false, List, ℕ, Ok, Err, ◌∙◌, subst, sym}
+use Rattle.std.proofs.Common.{◌∙◌, subst, sym}
 use Rattle.dl_text.specs.declared.refusals.ReadRefusal.{ReadRefusal}
-use Rattle.owl_read.specs.Literals.{undone, value_of}
+use Rattle.owl_read.specs.Literals.{value_of}
 use Rattle.owl_read.specs.Outcomes.{Fails}
 use Rattle.owl_read.proofs.LiteralLaws.{value_found, value_missing}
 use Rattle.owl_read.proofs.scope.Scope.value.Goals as goal
