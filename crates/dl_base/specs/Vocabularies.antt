@@ -1,11 +1,12 @@
 -- How an ontology is made of its parts, and why it is refused.
-use Rattle.std.specs.Prelude.{◌≡◌, ℕ, ◌<◌, ◌≤◌, ◌+◌, List, [], All, Contains, Option, Some, None, Vec, length, map, take, slice_get}
+use Rattle.std.specs.Prelude.{◌≡◌, ◌↔◌, ℕ, ◌<◌, ◌≤◌, ◌+◌, List, [], All, Contains, Option, Some, None, Vec, length, map, take, slice_get}
 use Rattle.dl_base.specs.declared.axioms.Axiom.{Axiom}
 use Rattle.dl_base.specs.declared.axioms.Axiom.TheVariants.{RoleIn, AttrIn, FunctionalRole, FunctionalAttr, ConceptSome}
 use Rattle.dl_base.specs.declared.refusals.OntologyRefusal.{OntologyRefusal}
 use Rattle.dl_base.specs.declared.refusals.OntologyRefusal.TheVariants as refusal
 use Rattle.dl_base.specs.declared.restriction.Predicate.{Predicate}
 use Rattle.dl_base.specs.declared.restriction.Predicate.TheVariants as predicate
+use Rattle.dl_base.specs.declared.restriction.Restriction.{Restriction}
 use Rattle.dl_base.specs.declared.terms.Kind.{Kind}
 use Rattle.dl_base.specs.declared.terms.RoleSide.{RoleSide}
 use Rattle.dl_base.specs.declared.terms.RoleSide.TheVariants.{Direct, Inverse}
@@ -79,3 +80,8 @@ specialised_by other = None
 -- one of the axioms does so to the predicate
 abbrev pub IsDone : (Axiom → Option Predicate) → List Axiom → Predicate → Type 0
 IsDone by axioms p = (a : Axiom) × Contains axioms a × (by a ≡ Some p)
+
+-- what these axioms declare functional, and what they specialise, is noted
+pub record Notes (restriction : Restriction) (axioms : List Axiom) : Type 0 where
+  pub functionals : (p : Predicate) → Contains restriction.functionals.keys p ↔ IsDone functional_by axioms p
+  pub specials : (p : Predicate) → Contains restriction.specials.keys p ↔ IsDone specialised_by axioms p

@@ -1,8 +1,8 @@
 //! The restriction of DL-Lite_A: nothing functional is specialised.
-ghost use Rattle.std.specs.Prelude.{◌≡◌, ◌↔◌, ◌⊎◌, IsTrue, IfOk, OnOk, MatchOption, Some, Contains};
+ghost use Rattle.std.specs.Prelude.{◌≡◌, ◌↔◌, ◌⊎◌, IsTrue, IfOk, OnOk, MatchOption, Some, Contains, ◌≤◌, [], take, length};
 ghost use Rattle.dl_base.specs.declared.restriction.Predicate as predicate_type;
 ghost use Rattle.dl_base.specs.Validity.{IsValid};
-ghost use Rattle.dl_base.specs.Vocabularies.{role_of, functional_by, specialised_by, IsFirstSpecialised};
+ghost use Rattle.dl_base.specs.Vocabularies.{Notes, role_of, functional_by, specialised_by, IsFirstSpecialised};
 
 use crate::axioms::Axiom;
 use crate::memory::OutOfMemory;
@@ -70,20 +70,54 @@ fn note(set: &mut BTreeSet<Predicate>, predicate: Option<Predicate>) -> Result<(
     Ok(())
 }
 
+/// What the axioms so far declare functional, and what they specialise.
+#[derive(Debug, Drop)]
+pub struct Restriction {
+    functionals: BTreeSet<Predicate>,
+    specials: BTreeSet<Predicate>,
+}
+
+impl Restriction {
+    /// That of no axioms.
+    pub fn new(alloc: Global) -> Restriction
+        ensures { Notes result [] }
+    {
+        Restriction {
+            functionals: BTreeSet::new(alloc),
+            specials: BTreeSet::new(alloc),
+        }
+    }
+
+    /// The place of the first axiom with which something functional is specialised, where those in front of `from` are noted and
+    /// specialise nothing functional. Where there is none, all are noted.
+    pub fn first_from(
+        &mut self,
+        axioms: &[Axiom],
+        from: usize,
+    ) -> Result<Option<usize>, OutOfMemory>
+        requires noted { Notes self.old (take from axioms.now) }
+        requires valid { IsValid (take from axioms.now) }
+        requires within { from ≤ length axioms.now }
+        ensures { IfOk result (λ place. MatchOption place (IsValid axioms.now × Notes self.new axioms.now) (IsFirstSpecialised axioms.now)) }
+    {
+        for place in from..axioms.len() {
+            let given = &axioms[place];
+            let here = functional(given);
+            let below = specialised(given);
+            if has(&self.specials, here) || has(&self.functionals, below) {
+                return Ok(Some(place));
+            }
+            note(&mut self.functionals, here)?;
+            note(&mut self.specials, below)?;
+        }
+        Ok(None)
+    }
+}
+
 /// The place of the first axiom with which something functional is specialised.
 pub fn first_specialised(alloc: Global, axioms: &[Axiom]) -> Result<Option<usize>, OutOfMemory>
     ensures { IfOk result (λ place. MatchOption place (IsValid axioms.now) (IsFirstSpecialised axioms.now)) }
 {
-    let mut functionals = BTreeSet::new(alloc);
-    let mut specials = BTreeSet::new(alloc);
-    for (place, given) in axioms.iter().enumerate() {
-        let here = functional(given);
-        let below = specialised(given);
-        if has(&specials, here) || has(&functionals, below) {
-            return Ok(Some(place));
-        }
-        note(&mut functionals, here)?;
-        note(&mut specials, below)?;
-    }
-    Ok(None)
+    let mut restriction = Restriction::new(alloc);
+    restriction.first_from(axioms, 0)
 }

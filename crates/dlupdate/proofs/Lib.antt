@@ -1,3 +1,4 @@
-pub mod AnsweringLaws
-pub mod TellingLaws
+pub mod CommittingLaws
+pub mod FollowingLaws
+pub mod RunLaws
 pub mod WordLaws

@@ -1,4 +1,8 @@
-pub mod Applying
+pub mod Commands
+pub mod Committing
+pub mod Following
+pub mod Held
 pub mod Offline
-pub mod Telling
+pub mod Opening
+pub mod Runs
 pub mod Texts

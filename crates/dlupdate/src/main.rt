@@ -1,10 +1,13 @@
 //! `dlupdate`: updates of facts under an ontology, offline.
 #![tactic(auto)]
 
-mod applying;
+mod commands;
+mod committing;
+mod files;
+mod following;
 mod offline;
-#[cfg(test)]
-mod tests;
+mod opening;
+mod reports;
 mod texts;
 mod words;
 

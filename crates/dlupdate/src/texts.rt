@@ -1,79 +1,117 @@
-ghost use Rattle.std.specs.Prelude.{◌≡◌, ◌++◌, OnOk, IfOk};
+ghost use Rattle.std.specs.Prelude.{◌≡◌, ◌++◌, ◌∷◌, [], OnOk, IfOk};
 ghost use Rattle.std.specs.Fmt.{decimal};
-ghost use Rattle.dlupdate.specs.Applying.{line_at, clash_text, refusal_text};
-ghost use Rattle.dlupdate.specs.Texts.{counted, two_places, listed, applied, about, error};
+ghost use Rattle.dlupdate.specs.Runs.{numbered};
+ghost use Rattle.dlupdate.specs.Texts.{counted, listed, checked, updated, stored, about, refused, error, line_at, contradiction, of_update, ill_formed};
 
 use dl_base::{Fact, Ontology, OutOfMemory};
+use dl_text::ReadKind;
+use loading::LoadRefusal;
 use ntriples::{print_facts, push_line};
 use std::alloc::Global;
-use update_engine::{Clash, IllFormed};
+use update_engine::IllFormed;
 
-/// What an update prints: how many triples were skipped, what was lost, and what is stored.
-pub fn applied_text(
+/// What a consistent base prints: how many terms and facts it has, and how many triples were skipped.
+pub fn checked_text(
     alloc: Global,
-    ontology: &Ontology,
+    terms: usize,
+    facts: usize,
     skipped: u64,
-    lost: &[Fact],
-    stored: &[Fact],
 ) -> Result<Vec<u8>, OutOfMemory>
-    ensures { IfOk result (λ text. text.items ≡ applied ontology.now skipped lost.now stored.now) }
+    ensures { IfOk result (λ text. text.items ≡ checked terms facts skipped) }
 {
     let mut text = Vec::new(alloc);
+    text.extend_from_slice(b"consistent\n")?;
+    push_counted(alloc, &mut text, b"terms ", terms as u64)?;
+    push_counted(alloc, &mut text, b"facts ", facts as u64)?;
     push_counted(alloc, &mut text, b"skipped ", skipped)?;
-    push_listed(alloc, &mut text, b"lost ", ontology, lost)?;
-    push_listed(alloc, &mut text, b"stored ", ontology, stored)?;
     Ok(text)
 }
 
-/// What is printed of facts that contradict the axioms: the fact, or the two.
-pub fn text_of_clash(
+/// What one update prints behind its head: how many triples were skipped, and what was lost.
+pub fn updated_text(
     alloc: Global,
+    head: Vec<u8>,
+    ontology: &Ontology,
+    skipped: u64,
+    lost: &[Fact],
+) -> Result<Vec<u8>, OutOfMemory>
+    ensures { IfOk result (λ text. text.items ≡ updated head.items ontology.now skipped lost.now) }
+{
+    let mut text = head;
+    push_counted(alloc, &mut text, b"skipped ", skipped)?;
+    push_listed(alloc, &mut text, b"lost ", ontology, lost)?;
+    Ok(text)
+}
+
+/// Appends what is printed at the end.
+pub fn push_stored(
+    alloc: Global,
+    text: &mut Vec<u8>,
     ontology: &Ontology,
     facts: &[Fact],
-    clash: Clash,
-) -> Result<Vec<u8>, OutOfMemory>
-    ensures { IfOk result (λ text. text.items ≡ clash_text ontology.now facts.now clash) }
+) -> Result<(), OutOfMemory>
+    ensures { OnOk result (text.new.items ≡ text.old.items ++ stored ontology.now facts.now) }
 {
-    match clash {
-        Clash::Alone(i) => {
+    push_listed(alloc, text, b"stored ", ontology, facts)
+}
+
+/// Appends the number of an update.
+pub fn push_number(alloc: Global, text: &mut Vec<u8>, number: usize) -> Result<(), OutOfMemory>
+    ensures { OnOk result (text.new.items ≡ text.old.items ++ numbered number) }
+{
+    push_counted(alloc, text, b"update ", number as u64)
+}
+
+/// What is printed of opening facts that contradict the axioms: the fact, or the two. Nothing for another refusal.
+pub fn contradiction_text(
+    alloc: Global,
+    ontology: &Ontology,
+    refusal: &LoadRefusal,
+) -> Result<Vec<u8>, OutOfMemory>
+    ensures { IfOk result (λ text. text.items ≡ contradiction ontology.now refusal.now) }
+{
+    match refusal {
+        LoadRefusal::Alone(fact) => {
             let mut text = error_text(alloc, b"inconsistent alone")?;
-            push_at(&mut text, ontology, facts, i)?;
+            push_line(&mut text, fact, ontology)?;
             Ok(text)
         }
-        Clash::Pair(i, j) => {
+        LoadRefusal::Pair(fact, beside) => {
             let mut text = error_text(alloc, b"inconsistent pair")?;
-            push_at(&mut text, ontology, facts, i)?;
-            push_at(&mut text, ontology, facts, j)?;
+            push_line(&mut text, fact, ontology)?;
+            push_line(&mut text, beside, ontology)?;
             Ok(text)
         }
+        _ => Ok(Vec::new(alloc)),
     }
 }
 
-/// What is printed of an update that contradicts itself: its name by places, and the facts at them.
-pub fn text_of_refusal(
+/// What is printed of an update that contradicts itself: its number, its name by places, and the facts at them.
+pub fn ill_formed_text(
     alloc: Global,
     ontology: &Ontology,
+    number: usize,
     inserts: &[Fact],
     deletes: &[Fact],
     name: IllFormed,
 ) -> Result<Vec<u8>, OutOfMemory>
-    ensures { IfOk result (λ text. text.items ≡ refusal_text ontology.now inserts.now deletes.now name) }
+    ensures { IfOk result (λ text. text.items ≡ ill_formed ontology.now number inserts.now deletes.now name) }
 {
-    let mut text = Vec::new(alloc);
     match name {
         IllFormed::Alone(i) => {
-            push_counted(alloc, &mut text, b"error update 0 alone ", i as u64)?;
+            let mut text = update_text(alloc, number, b" alone ")?;
+            push_place(alloc, &mut text, i)?;
             push_at(&mut text, ontology, inserts, i)?;
             Ok(text)
         }
         IllFormed::Pair(i, j) => {
-            push_places(alloc, &mut text, b"error update 0 pair ", i, j)?;
+            let mut text = places_text(alloc, number, b" pair ", i, j)?;
             push_at(&mut text, ontology, inserts, i)?;
             push_at(&mut text, ontology, inserts, j)?;
             Ok(text)
         }
         IllFormed::Entails(i, d) => {
-            push_places(alloc, &mut text, b"error update 0 entails ", i, d)?;
+            let mut text = places_text(alloc, number, b" entails ", i, d)?;
             push_at(&mut text, ontology, inserts, i)?;
             push_at(&mut text, ontology, deletes, d)?;
             Ok(text)
@@ -93,6 +131,26 @@ pub fn file_text(alloc: Global, name: &str, words: &[u8]) -> Result<Vec<u8>, Out
     Ok(text)
 }
 
+/// The error line of a file that its reader refuses.
+pub fn refused_text(
+    alloc: Global,
+    name: &str,
+    line: u64,
+    kind: ReadKind,
+) -> Result<Vec<u8>, OutOfMemory>
+    ensures { IfOk result (λ text. text.items ≡ refused name.now line kind) }
+{
+    let mut text = Vec::new(alloc);
+    text.extend_from_slice(b"error ")?;
+    text.extend_from_slice(name.as_bytes())?;
+    text.push(b' ')?;
+    push_decimal(alloc, &mut text, kind.number() as u64)?;
+    text.push(b' ')?;
+    text.extend_from_slice(kind.name().as_bytes())?;
+    push_counted(alloc, &mut text, b" line ", line)?;
+    Ok(text)
+}
+
 /// An error line without a file.
 pub fn error_text(alloc: Global, words: &[u8]) -> Result<Vec<u8>, OutOfMemory>
     ensures { IfOk result (λ text. text.items ≡ error words.now) }
@@ -102,6 +160,43 @@ pub fn error_text(alloc: Global, words: &[u8]) -> Result<Vec<u8>, OutOfMemory>
     text.extend_from_slice(words)?;
     text.push(b'\n')?;
     Ok(text)
+}
+
+/// How the line of an ill-formed update begins.
+fn update_text(alloc: Global, number: usize, word: &[u8]) -> Result<Vec<u8>, OutOfMemory>
+    ensures { IfOk result (λ text. text.items ≡ of_update number word.now) }
+{
+    let mut text = Vec::new(alloc);
+    text.extend_from_slice(b"error update ")?;
+    push_decimal(alloc, &mut text, number as u64)?;
+    text.extend_from_slice(word)?;
+    Ok(text)
+}
+
+/// The line of an ill-formed update that is named by two places.
+fn places_text(
+    alloc: Global,
+    number: usize,
+    word: &[u8],
+    i: usize,
+    j: usize,
+) -> Result<Vec<u8>, OutOfMemory>
+    ensures { IfOk result (λ text. text.items ≡ counted (of_update number word.now ++ (decimal i ++ 32 ∷ [])) j) }
+{
+    let mut text = update_text(alloc, number, word)?;
+    push_decimal(alloc, &mut text, i as u64)?;
+    text.push(b' ')?;
+    push_place(alloc, &mut text, j)?;
+    Ok(text)
+}
+
+/// Appends the number of a place and LF.
+fn push_place(alloc: Global, text: &mut Vec<u8>, place: usize) -> Result<(), OutOfMemory>
+    ensures { OnOk result (text.new.items ≡ counted text.old.items place) }
+{
+    push_decimal(alloc, text, place as u64)?;
+    text.push(b'\n')?;
+    Ok(())
 }
 
 /// Appends the line of the fact at the place, if there is one.
@@ -132,23 +227,6 @@ fn push_counted(alloc: Global, text: &mut Vec<u8>, word: &[u8], n: u64) -> Resul
 {
     text.extend_from_slice(word)?;
     push_decimal(alloc, text, n)?;
-    text.push(b'\n')?;
-    Ok(())
-}
-
-fn push_places(
-    alloc: Global,
-    text: &mut Vec<u8>,
-    word: &[u8],
-    i: usize,
-    j: usize,
-) -> Result<(), OutOfMemory>
-    ensures { OnOk result (text.new.items ≡ text.old.items ++ two_places word.now i j) }
-{
-    text.extend_from_slice(word)?;
-    push_decimal(alloc, text, i as u64)?;
-    text.push(b' ')?;
-    push_decimal(alloc, text, j as u64)?;
     text.push(b'\n')?;
     Ok(())
 }

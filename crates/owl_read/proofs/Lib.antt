@@ -1,3 +1,13 @@
-pub mod PlainLaws
-pub mod GatheringLaws
-pub mod AnswerLaws
+pub mod RunLaws
+pub mod NodeLaws
+pub mod RightLaws
+pub mod ScopeLaws
+pub mod TermsLaws
+pub mod LiteralLaws
+pub mod AnnotationLaws
+pub mod DifferentLaws
+pub mod KeepLaws
+pub mod KeepPlaces
+pub mod KeepTable
+pub mod KeepRows
+pub mod DocumentLaws

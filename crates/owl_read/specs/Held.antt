@@ -1,6 +1,6 @@
--- What the reader has gathered, as a value.
-use Rattle.owl_read.specs.declared.terms.Gathering.{Gathering}
-use Rattle.owl_read.specs.Gathering.{Gathered}
+-- What the reader holds, as a value.
+use Rattle.owl_read.specs.declared.reader.Reader.{Reader}
+use Rattle.owl_read.specs.Rows.{Reading}
 
-abbrev pub held : Gathering → Gathered
-held g = record { terms = g.terms.items; axioms = g.axioms.items; facts = g.facts.items }
+abbrev pub held : Reader → Reading
+held r = record { scope = r.scope; axioms = r.axioms.items; facts = r.facts.items; skipped = r.skipped }

@@ -1,5 +1,13 @@
-pub mod Answers
-pub mod FirstForm
-pub mod Gathering
+pub mod Items
+pub mod Outcomes
+pub mod Builtins
+pub mod Scopes
+pub mod Literals
+pub mod Places
+pub mod Concepts
+pub mod Annotations
+pub mod Forms
+pub mod Table
+pub mod Rows
+pub mod Documents
 pub mod Held
-pub mod PlainNames

@@ -1,11 +1,26 @@
-//! Ontologies read from their text: so far those in the first form, a few fixed lines about named classes.
+//! Ontologies in OWL 2 functional-style syntax, as far as DL-Lite_A goes: the terms, axioms and assertions of a document.
 #![tactic(auto)]
 
-mod lines;
-mod plain_names;
+mod annotations;
+mod arguments;
+mod assertions;
+mod attr_axioms;
+mod builtins;
+mod class_axioms;
+mod concepts;
+mod declarations;
+mod documents;
+mod forms;
+mod literals;
+mod nodes;
+mod outcomes;
+mod reader;
 mod reading;
-mod terms;
+mod rights;
+mod role_axioms;
+mod roles;
+mod scope;
+mod sides;
+mod table;
 
-pub use lines::one_name;
-pub use plain_names::{after, is_plain_name, name_before};
-pub use reading::{ReadOntology, read_ontology};
+pub use reading::{ReadOntology, read_ontology, read_ontology_over};

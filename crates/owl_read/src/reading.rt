@@ -1,16 +1,18 @@
-ghost use Rattle.std.specs.Prelude.{◌≡◌, ◌↔◌, List, Contains, IsTrue, IfOk, MatchOption};
-ghost use Rattle.dl_base.specs.Ontologies.{Knows};
+ghost use Rattle.std.specs.Prelude.{◌≡◌, List, Contains, IfOk};
+ghost use Rattle.dl_base.specs.Ontologies.{Knows, Extends};
+ghost use Rattle.dl_base.specs.Validity.{IsOntology};
 ghost use Rattle.dl_base.specs.declared.statements.Fact as fact_type;
-ghost use Rattle.owl_read.specs.FirstForm as form;
-ghost use Rattle.owl_read.specs.FirstForm.{IsDocument, closing};
-ghost use Rattle.owl_read.specs.Gathering.{gathered};
+ghost use Rattle.dl_text.specs.Outcomes as texts;
+ghost use Rattle.owl_read.specs.Documents.{theory_of, ReadsTo, Reads, ReadsOver, seen};
 ghost use Rattle.owl_read.specs.Held.{held};
-ghost use Rattle.owl_read.specs.Answers.{Reads, IsMade, seen, unmade};
+ghost use Rattle.owl_read.specs.Scopes.{IsSound};
 
-use crate::lines::line_at;
-use crate::plain_names::after;
-use crate::terms::Gathering;
-use dl_base::{Fact, FirstRefusal, Ontology, OntologyRefusal, OutOfMemory, once};
+use crate::documents::{bindings_of, take_document};
+use crate::reader::Reader;
+use crate::scope::Scope;
+use dl_base::{Axiom, Fact, Kind, Name, Ontology, OntologyRefusal, OutOfMemory, once};
+use dl_text::ReadRefusal;
+use owl_syntax::parse;
 use std::alloc::Global;
 
 /// An ontology with its document's assertions in order, repeats dropped, and how many were skipped.
@@ -21,89 +23,88 @@ pub struct ReadOntology {
     pub skipped: u64,
 }
 
-/// Reads an ontology in the first form: the line `Ontology(`, any number of the lines `Declaration(Class(<C>))`, `SubClassOf(<C> <D>)`,
-/// `DisjointClasses(<C> <D>)` and `ClassAssertion(<C> <a>)`, and the line `)`, each with LF at its end. Terms are numbered from 0 in the
-/// order in which they appear first. Every other text is refused with `NotBuiltYet`.
-pub fn read_ontology(alloc: Global, bytes: &[u8]) -> Result<ReadOntology, FirstRefusal>
-    ensures { Reads bytes.now (seen result) }
+/// What the document says, these terms first.
+fn read(alloc: Global, bytes: &[u8], base: &[(Name, Kind)]) -> Result<Reader, ReadRefusal>
+    requires { IsSound base.now }
+    ensures { ReadsTo base.now bytes.now (texts.seen held result) }
 {
-    match gather(alloc, bytes)? {
-        Some(gathering) => made(alloc, gathering),
-        None => Err(FirstRefusal::NotBuiltYet),
+    let document = parse(alloc, bytes)?;
+    let prefixes = bindings_of(alloc, document.prefixes.as_slice())?;
+    let mut reader = Reader::new(alloc, Scope::over(alloc, prefixes, base)?);
+    take_document(alloc, &mut reader, &document.root)?;
+    Ok(reader)
+}
+
+/// The ontology of terms and axioms that are known to make one.
+fn made(alloc: Global, scope: &Scope, axioms: Vec<Axiom>) -> Result<Ontology, OutOfMemory>
+    requires { IsOntology (record { terms = scope.now.terms; axioms = axioms.items }) }
+    ensures { IfOk result (λ it. it ≡ record { terms = scope.now.terms; axioms = axioms.items }) }
+{
+    let terms = scope.entries()?;
+    match Ontology::of(alloc, terms, axioms) {
+        Ok(ontology) => Ok(ontology),
+        Err(why) => {
+            // The other refusals can't come.
+            prove!(matches!(&why, OntologyRefusal::OutOfMemory));
+            Err(OutOfMemory)
+        }
     }
 }
 
-/// What the lines say, where the text is in the form.
-fn gather(alloc: Global, bytes: &[u8]) -> Result<Option<Gathering>, OutOfMemory>
-    ensures { IfOk result (λ found. MatchOption found ((lines : List form.Line) → ¬ IsDocument bytes.now lines) (λ g. (lines : List form.Line) × IsDocument bytes.now lines × (held g ≡ gathered lines))) }
+/// Reads an ontology document: its terms, numbered from 0 in the order in which they appear first, its axioms as far as they matter
+/// for facts, and its assertions in order, repeats dropped. An assertion of `owl:Thing` is skipped and counted.
+///
+/// The refusals are those of `owl_syntax::parse`, and then the first from the left of these, with its line from 1: at a name
+/// `UnknownPrefix`, `BadIri` and `NameTooLong`; `Syntax` where the count of an axiom's arguments or the kind of one is none of
+/// OWL 2; `NotDlLite` for what isn't in DL-Lite_A; `Import`; `BlankNode` for an individual without a name; `TwoKinds` and
+/// `TooManyTerms` (more than 4,000) for a term; `BadLiteral`; and behind an axiom's places `FunctionalSpecialised`.
+///
+/// OWL 2 Structural Specification and Functional-Style Syntax, sections 5 to 10.
+pub fn read_ontology(alloc: Global, bytes: &[u8]) -> Result<ReadOntology, ReadRefusal>
+    // Bytes, tokens and the tree, then the nodes of the tree from left to right.
+    ensures read { Reads bytes.now (seen result) }
+    // The ontology knows each assertion.
+    ensures known { IfOk result (λ it. (f : fact_type.Fact) → Contains it.facts.items f → Knows it.ontology f) }
 {
-    let Some(mut rest) = after(bytes, b"Ontology(\n") else {
-        return Ok(None);
-    };
-    let mut gathering = Gathering::new(alloc);
-    while !is_closing(rest) {
-        let Some((line, behind)) = line_at(rest) else {
-            return Ok(None);
-        };
-        gathering.take(alloc, line)?;
-        rest = behind;
-    }
-    Ok(Some(gathering))
-}
-
-/// Whether the text is the last line.
-fn is_closing(text: &[u8]) -> bool
-    ensures { IsTrue result ↔ (text.now ≡ closing) }
-{
-    text == b")\n".as_slice()
-}
-
-/// The ontology of what was gathered.
-fn made(alloc: Global, gathering: Gathering) -> Result<ReadOntology, FirstRefusal>
-    ensures { IsMade (held gathering) (seen result) }
-{
-    let Gathering {
-        names: _,
-        terms,
+    let Reader {
+        scope,
         axioms,
         facts,
-    } = gathering;
-    let ontology = match Ontology::of(alloc, terms, axioms) {
-        Ok(ontology) => ontology,
-        Err(refusal) => return Err(unmade(refusal)),
-    };
-    if !knows_all(&ontology, facts.as_slice()) {
-        return Err(FirstRefusal::NotBuiltYet);
-    }
-    let facts = once(alloc, facts.as_slice())?;
+        skipped,
+    } = read(alloc, bytes, &[])?;
+    let ontology = made(alloc, &scope, axioms)?;
     Ok(ReadOntology {
         ontology,
-        facts,
-        skipped: 0,
+        facts: once(alloc, facts.as_slice())?,
+        skipped,
     })
 }
 
-/// Whether the ontology knows all the facts.
-fn knows_all(ontology: &Ontology, facts: &[Fact]) -> bool
-    ensures { IsTrue result ↔ ((f : fact_type.Fact) → Contains facts.now f → Knows ontology.now f) }
+/// Reads an ontology document over the terms of a base, which come first with their numbers and kinds: a term of the base in another
+/// kind is `TwoKinds`. The document's assertions are read and may be refused; none is kept, and each is counted as skipped. All else
+/// is as in `read_ontology`.
+pub fn read_ontology_over(
+    alloc: Global,
+    bytes: &[u8],
+    base: &Ontology,
+) -> Result<ReadOntology, ReadRefusal>
+    // Bytes, tokens and the tree, then the nodes of the tree from left to right.
+    ensures read { ReadsOver base.now.terms bytes.now (seen result) }
+    ensures extends { IfOk result (λ it. Extends it.ontology base.now) }
 {
-    for fact in facts {
-        if !ontology.knows(fact) {
-            return false;
-        }
-    }
-    true
-}
-
-/// The refusal of a text whose terms and axioms make no ontology.
-fn unmade(refusal: OntologyRefusal) -> FirstRefusal
-    ensures { result ≡ unmade refusal }
-{
-    match refusal {
-        OntologyRefusal::OutOfMemory => FirstRefusal::OutOfMemory,
-        OntologyRefusal::TooManyTerms => FirstRefusal::NotBuiltYet,
-        OntologyRefusal::TwoKinds(_) => FirstRefusal::NotBuiltYet,
-        OntologyRefusal::BadAxiom(_) => FirstRefusal::NotBuiltYet,
-        OntologyRefusal::FunctionalSpecialised(_) => FirstRefusal::NotBuiltYet,
+    let Reader {
+        scope,
+        axioms,
+        facts,
+        skipped,
+    } = read(alloc, bytes, base.entries())?;
+    let ontology = made(alloc, &scope, axioms)?;
+    match skipped.checked_add(facts.as_slice().len() as u64) {
+        Some(skipped) => Ok(ReadOntology {
+            ontology,
+            facts: Vec::new(alloc),
+            skipped,
+        }),
+        None => Err(ReadRefusal::OutOfMemory),
     }
 }

@@ -1,15 +1,18 @@
-use Rattle.std.proofs.Common.{◌≡◌, sym, subst, false, true, List}
-use Rattle.std.specs.Prelude.{Contains}
+use Rattle.std.proofs.Common.{ℕ, List, sym, subst, ⊎_elim, ◌∙◌}
 use Rattle.std.proofs.lemmas.Bool.{false≢true}
-use Rattle.dl_base.specs.declared.statements.Fact.{Fact}
-use Rattle.dl_base.specs.Ontologies.{Theory, Knows}
-use Rattle.owl_read.specs.Held.{held}
-use Rattle.owl_read.proofs.AnswerLaws.{not_made}
+use Rattle.dl_base.specs.declared.terms.Kind.{Kind}
+use Rattle.dl_base.specs.Ontologies.{Theory}
+use Rattle.dl_base.specs.Vocabularies.{IsRefused}
+use Rattle.dl_base.proofs.NamesLaws.{no_ontology}
 use Rattle.owl_read.proofs.reading.made.Goals as goal
+use Rattle.owl_read.proofs.reading.made.Goals.{in-OutOfMemory, in_default}
 
-pub returns-in-Err : goal.returns-in-Err
-returns-in-Err c = rw c.unmade.ensures (not_made (held c.args.gathering) c.in-Err.refusal c.in-Err.ensures.refused)
-
-pub returns-then-not-knows_all : goal.returns-then-not-knows_all
-returns-then-not-knows_all c = λ fit. false≢true (c.if-not-knows_all.ensures.1 (λ f m.
-    subst (λ (t : Theory). Knows t f) (sym c.in-Ok.ensures.made) (fit.1 f (subst (λ (zs : List Fact). Contains zs f) c.as_slice.ensures.value m))))
+pub prove-unreachable-requires : goal.prove-unreachable-requires
+prove-unreachable-requires c =
+    elim c.match-matches.branch [
+      | in-OutOfMemory w ↦ false≢true (sym c.if-prove.true ∙ w.matches-is)
+      | in_default w ↦
+          let theory : Theory = record { terms = c.args.scope.now.terms; axioms = c.args.axioms.items } in
+          let refused = subst (λ (ts : List (List ℕ × Kind)). IsRefused (record { terms = ts; axioms = c.args.axioms.items }) c.in-Err.why) c.in_ok-terms.ensures c.in-Err.ensures.refused in
+          ⊎_elim w.in_default.not-OutOfMemory (λ n. n c.requires) (no_ontology theory c.in-Err.why refused)
+    ]

@@ -1,22 +1,21 @@
-use Rattle.std.proofs.Common.{◌≡◌, ℕ, List, Option, subst}
-use Rattle.std.specs.Prelude.{MatchOption}
-use Rattle.owl_read.specs.declared.terms.Gathering.{Gathering}
-use Rattle.owl_read.specs.Answers.{IsMade, seen}
-use Rattle.owl_read.specs.FirstForm.{Line, IsDocument}
-use Rattle.owl_read.specs.Gathering.{Gathered, gathered}
+use Rattle.std.proofs.Common.{[], sym, subst, List}
+use Rattle.std.specs.Prelude.{Contains}
+use Rattle.std.proofs.lemmas.List.Elements.{All-contains}
+use Rattle.dl_base.specs.Ontologies.{Theory, Knows}
+use Rattle.dl_base.specs.declared.statements.Fact.{Fact}
+use Rattle.owl_read.specs.Documents.{theory_of}
 use Rattle.owl_read.specs.Held.{held}
-use Rattle.owl_read.proofs.AnswerLaws.{made_reads}
+use Rattle.owl_read.proofs.DocumentLaws.{nothing_sound, reads_holds, holds_ontology, holds_facts}
 use Rattle.owl_read.proofs.reading.read_ontology.Goals as goal
 
-abbrev Found : List ℕ → Option Gathering → Type 0
-Found text found = MatchOption found ((lines : List Line) → ¬ IsDocument text lines) (λ g. (lines : List Line) × IsDocument text lines × (held g ≡ gathered lines))
+pub made-requires : goal.made-requires
+made-requires c =
+    let h = reads_holds [] c.args.bytes.now (held c.in_ok-scope.field-0) nothing_sound c.in_ok-scope.ensures in
+    holds_ontology (held c.in_ok-scope.field-0) h.0 h.1
 
-pub returns-in-Some : goal.returns-in-Some
-returns-in-Some c =
-    let found = subst (Found c.args.bytes.now) c.in-Some.is c.in_ok-gathering.ensures in
-    made_reads c.args.bytes.now found.0 (seen c.made.result) found.1 (subst (λ (g : Gathered). IsMade g (seen c.made.result)) found.2 c.made.ensures)
-
-pub returns-in-None : goal.returns-in-None
-returns-in-None c =
-    let found = subst (Found c.args.bytes.now) c.in-None.is c.in_ok-gathering.ensures in
-    λ lines d. absurd (found lines d)
+pub returns-clause-known : goal.returns-clause-known
+returns-clause-known c f m =
+    let r = held c.in_ok-scope.field-0 in
+    let h = reads_holds [] c.args.bytes.now r nothing_sound c.in_ok-scope.ensures in
+    subst (λ (t : Theory). Knows t f) (sym c.in_ok-ontology.ensures)
+    (All-contains (Knows (theory_of r)) r.facts f (holds_facts r h.0) (subst (λ (fs : List Fact). Contains fs f) c.as_slice.ensures.value ((c.in_ok-once.ensures.same f).0 m)))

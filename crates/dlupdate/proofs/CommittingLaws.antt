@@ -1,0 +1,141 @@
+-- One update, begun, changed and committed by the core.
+use Rattle.std.proofs.Common.{◌≡◌, ◌↔◌, ◌⊎◌, ℕ, ◌+◌, List, [], ◌∷◌, ◌++◌, length, refl, sym, ◌∙◌, ap, subst, inl, inr, ⊎_elim}
+use Rattle.std.specs.Prelude.{Contains, take}
+use Rattle.std.proofs.Math.Seq.{take-length}
+use Rattle.dl_base.specs.declared.axioms.Axiom.{Axiom}
+use Rattle.dl_base.specs.declared.statements.Fact.{Fact}
+use Rattle.dl_base.specs.declared.requests.Changed.{Changed}
+use Rattle.dl_base.specs.declared.requests.Entry.{Entry}
+use Rattle.dl_base.specs.declared.requests.Request.{Request}
+use Rattle.dl_base.specs.declared.requests.Request.TheVariants.{Change, Ask}
+use Rattle.dl_base.specs.Commits as outcome
+use Rattle.dl_base.specs.FactOrder.{AreSorted}
+use Rattle.dl_base.specs.Histories.{IsVersion, in_force, in_force_at}
+use Rattle.dl_base.specs.Ontologies.{Theory}
+use Rattle.dl_base.specs.Transactions.{Runs, done, then, Serves, IsChange}
+use Rattle.dl_base.specs.Updates.{Lists, IsStored, IsLost, IsWellFormed}
+use Rattle.dl_base.proofs.HistoryLaws.{after_within, version_is_one, version_last}
+use Rattle.dl_base.proofs.Members.{nowhere, alone}
+use Rattle.dl_base.proofs.SameFacts.{same_facts}
+use Rattle.transaction.specs.declared.events.Event.TheVariants as event
+use Rattle.transaction.specs.declared.events.Reply.{Reply}
+use Rattle.transaction.specs.declared.events.Reply.TheVariants as reply
+use Rattle.transaction.specs.Worlds.{Begun, State, Has, StepsTo}
+use Rattle.update_engine.specs.declared.judging.IllFormed.{IllFormed}
+use Rattle.update_engine.specs.Judging.{IsNamed}
+use Rattle.dlupdate.specs.Committing.{StandsAt}
+
+-- the state with this transaction of editor 0 alone
+abbrev pub with_one : State → List Request → State
+with_one s requests = record {
+  opening = s.opening;
+  facts = s.facts;
+  limit = s.limit;
+  entries = s.entries;
+  begun = (let b : Begun = record { editor = 0; base = length s.entries; requests = requests } in b) ∷ [];
+}
+
+abbrev one_begun : State → List Request → Begun
+one_begun s requests = record { editor = 0; base = length s.entries; requests = requests }
+
+-- an idle core begins
+pub begin_is : (s t : State) (r : Reply) → s.begun ≡ [] → StepsTo s (event.Begin 0) r t → t ≡ with_one s []
+begin_is s t (reply.Begun n) idle h =
+    h.2 ∙ (λ i.
+        let others : List Begun = Rattle.transaction.specs.Worlds.others 0 (idle i) in
+        let it : State = record { opening = s.opening; facts = s.facts; limit = s.limit; entries = s.entries; begun = (let b : Begun = record { editor = 0; base = h.1 i; requests = [] } in b) ∷ others } in it)
+begin_is s t reply.AlreadyBegun idle h = absurd (nowhere h.0.0 (subst (λ (bs : List Begun). Contains bs h.0.0) idle h.0.1.0))
+begin_is s t (reply.Lost x) idle h = absurd h
+begin_is s t (reply.IllFormed x) idle h = absurd h
+begin_is s t (reply.Committed x) idle h = absurd h
+begin_is s t (reply.ReadOnly x) idle h = absurd h
+begin_is s t (reply.HistoryFull x) idle h = absurd h
+begin_is s t reply.NoTransaction idle h = absurd h
+
+-- the one transaction
+has_one : (s : State) (requests : List Request) (b : Begun) → Has (with_one s requests) 0 b → b ≡ one_begun s requests
+has_one s requests b h = sym (alone (one_begun s requests) b h.0)
+
+pub room_in : (s : State) (b : Begun) → Has (with_one s []) 0 b → b.requests ≡ []
+room_in s b h = ap (λ (x : Begun). x.requests) (has_one s [] b h)
+
+-- a run of no request changes nothing
+none_runs : (axioms : List Axiom) (old new : List Fact) (requests : List Request) (replies : List (List Fact)) → Runs axioms old requests replies new → requests ≡ [] → new ≡ old
+none_runs axioms old new requests replies (done v) e = refl
+none_runs axioms old new requests replies (then o m n r rs p ps s rest) e = absurd (let no : ⊥ = cc in no)
+
+-- a run of one change stores what it stores
+one_runs : (axioms : List Axiom) (old new inserts deletes : List Fact) (requests : List Request) (replies : List (List Fact)) → Runs axioms old requests replies new → requests ≡ Change inserts deletes ∷ []
+    → Lists (IsStored axioms old inserts deletes) new
+one_runs axioms old new inserts deletes requests replies (done v) e = absurd (let no : ⊥ = cc in no)
+one_runs axioms old new inserts deletes requests replies (then o m n r rs p ps s rest) e =
+    let first : r ≡ Change inserts deletes = cc in
+    let more : rs ≡ [] = cc in
+    let served = subst (λ (q : Request). Serves axioms q o p m) first s in
+    subst (Lists (IsStored axioms o inserts deletes)) (sym (none_runs axioms m n rs ps rest more)) served.0
+
+-- two sorted lists of the same facts are one
+same_lists : (P : Fact → Type 0) (xs ys : List Fact) → Lists P xs → Lists P ys → xs ≡ ys
+same_lists P xs ys h k = same_facts xs ys h.sorted k.sorted (λ f m. (k.each f).1 ((h.each f).0 m)) (λ f m. (h.each f).1 ((k.each f).0 m))
+
+module _ (s : State) (theory : Theory) (opens : s.opening ≡ theory) (force : in_force s.opening s.entries ≡ s.opening) (stored : List Fact) (stands : IsVersion s.facts s.entries stored) where
+  -- the ontology in force at the base of the transaction
+  at_base : in_force_at s.opening s.entries (length s.entries) ≡ theory
+  at_base = ap (λ (es : List Entry). in_force s.opening es) (take-length s.entries) ∙ force ∙ opens
+
+  -- an ill-formed update is named
+  pub names_it : (inserts deletes : List Fact) (name : IllFormed) (t : State) → StepsTo (with_one s []) (event.Change 0 inserts deletes) (reply.IllFormed name) t → IsNamed theory.axioms inserts deletes name
+  names_it inserts deletes name t h =
+      let (b, has, named) = h.0 in
+      subst (λ (x : Theory). IsNamed x.axioms inserts deletes name) (ap (λ (x : Begun). in_force_at s.opening s.entries x.base) (has_one s [] b has) ∙ at_base) named
+
+  -- what a change of the transaction is answered, and the state behind it
+  pub record IsChanged (inserts deletes lost next : List Fact) (t : State) : Type 0 where
+    pub well : IsWellFormed theory.axioms inserts deletes
+    pub stored_is : Lists (IsStored theory.axioms stored inserts deletes) next
+    pub lost_is : Lists (IsLost theory.axioms stored next) lost
+    pub state_is : t ≡ with_one s (Change inserts deletes ∷ [])
+
+  pub changes_it : (inserts deletes lost : List Fact) (t : State) → StepsTo (with_one s []) (event.Change 0 inserts deletes) (reply.Lost lost) t → (next : List Fact) × IsChanged inserts deletes lost next t
+  changes_it inserts deletes lost t h =
+      let (b, has, (mid, new, (old, replies, version, run), well, serves, is)) = h in
+      let it : b ≡ one_begun s [] = has_one s [] b has in
+      let force_is : in_force_at s.opening s.entries b.base ≡ theory = ap (λ (x : Begun). in_force_at s.opening s.entries x.base) it ∙ at_base in
+      let at : take b.base s.entries ≡ s.entries = ap (λ (x : Begun). take x.base s.entries) it ∙ take-length s.entries in
+      let old_is : old ≡ stored = version_is_one s.facts s.entries old stored (subst (λ (es : List Entry). IsVersion s.facts es old) at version) stands in
+      let mid_is : mid ≡ stored = none_runs (in_force_at s.opening s.entries b.base).axioms old mid b.requests replies run (ap (λ (x : Begun). x.requests) it) ∙ old_is in
+      let served = subst (λ (m : List Fact). Serves theory.axioms (Change inserts deletes) m lost new) mid_is (subst (λ (x : Theory). Serves x.axioms (Change inserts deletes) mid lost new) force_is serves) in
+      (
+        new,
+        record {
+          well = subst (λ (x : Theory). IsWellFormed x.axioms inserts deletes) force_is well;
+          stored_is = served.0;
+          lost_is = served.1;
+          state_is = is ∙ ap (λ (x : Begun). Rattle.transaction.specs.Worlds.with_begun (with_one s []) (Rattle.transaction.specs.Worlds.recorded x (Change inserts deletes))) it;
+        },
+      )
+
+  -- the commit stores what the change told
+  pub commits_it : (inserts deletes next version : List Fact) (n : ℕ) (t : State) → Lists (IsStored theory.axioms stored inserts deletes) next
+      → StepsTo (with_one s (Change inserts deletes ∷ [])) (event.Commit 0) (reply.Committed n) t → IsVersion t.facts t.entries version → AreSorted version
+      → (t.opening ≡ s.opening) × (t.begun ≡ []) × (version ≡ next)
+  commits_it inserts deletes next version n t stored_is h after sorted =
+      let (b, has, (entries, made, is)) = h in
+      let it : b ≡ one_begun s (Change inserts deletes ∷ []) = has_one s (Change inserts deletes ∷ []) b has in
+      let (change, room, fresh, number, (entry, commit, grown)) = made in
+      let (old, new, replies, at, run, changed) = commit.run in
+      let old_is : old ≡ stored = version_is_one s.facts s.entries old stored at stands in
+      let runs : Lists (IsStored theory.axioms old inserts deletes) new =
+          one_runs theory.axioms old new inserts deletes b.requests replies (subst (λ (x : Theory). Runs x.axioms old b.requests replies new) (force ∙ opens) run) (ap (λ (x : Begun). x.requests) it) in
+      let new_is : new ≡ next = same_lists (IsStored theory.axioms stored inserts deletes) new next (subst (λ (o : List Fact). Lists (IsStored theory.axioms o inserts deletes) new) old_is runs) stored_is in
+      let here : IsVersion s.facts (s.entries ++ entry ∷ []) version =
+          subst (λ (es : List Entry). IsVersion s.facts es version) (ap (λ (x : State). x.entries) is ∙ grown) (subst (λ (fs : List Fact). IsVersion fs t.entries version) (ap (λ (x : State). x.facts) is) after) in
+      let (before, before_is, is_after) = version_last s.facts s.entries entry version here in
+      let before_old : before ≡ old = version_is_one s.facts s.entries before old before_is at in
+      let last : IsChange old version entry.changed = subst (λ (o : List Fact). IsChange o version entry.changed) before_old is_after.1 in
+      let same : version ≡ new = same_facts version new sorted runs.sorted (after_within old version new entry.changed last changed) (after_within old new version entry.changed changed last) in
+      (
+        ap (λ (x : State). x.opening) is,
+        ap (λ (x : State). x.begun) is ∙ ap (λ (x : Begun). Rattle.transaction.specs.Worlds.others x.editor (with_one s (Change inserts deletes ∷ [])).begun) it,
+        same ∙ new_is,
+      )

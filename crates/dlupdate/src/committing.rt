@@ -1,0 +1,34 @@
+ghost use Rattle.std.specs.Prelude.{◌≡◌, List, All, IfOk};
+ghost use Rattle.dl_base.specs.Ontologies.{Theory, Knows};
+ghost use Rattle.dl_base.specs.declared.statements.Fact as fact_type;
+ghost use Rattle.dlupdate.specs.Committing.{StandsAt, Commits};
+
+use dl_base::{Facts, OutOfMemory, PlainSet};
+use transaction::{Event, Reply, World};
+use update_engine::IllFormed;
+
+/// Takes one update as a transaction of one change, and commits it: the facts that it lost, or how it contradicts itself.
+pub fn committed(
+    world: &mut World<PlainSet>,
+    inserts: Facts,
+    deletes: Facts,
+) -> Result<Result<Facts, IllFormed>, OutOfMemory>
+    requires idle { world.old.begun ≡ [] }
+    requires known { All (Knows world.old.opening) inserts × All (Knows world.old.opening) deletes }
+    ensures { IfOk result (λ answer. (stored : List fact_type.Fact) → StandsAt world.old world.old.opening stored
+        → Commits world.old.opening stored inserts deletes world.new answer) }
+{
+    world.step(Event::Begin(0))?;
+    match world.step(Event::Change(0, inserts, deletes))? {
+        Reply::Lost(lost) => match world.step(Event::Commit(0))? {
+            Reply::Committed(_) => {
+                let _version = world.version();
+                Ok(Ok(lost))
+            }
+            // A script's history has room for each of its updates.
+            _ => Err(OutOfMemory),
+        },
+        Reply::IllFormed(name) => Ok(Err(name)),
+        _ => Err(OutOfMemory),
+    }
+}

@@ -1,3 +1,0 @@
-pub mod LayoutLaws
-pub mod AnswerLaws
-pub mod FactsLaws
