@@ -1,13 +1,12 @@
 -- Printed facts are read as those facts.
-use Rattle.std.proofs.Common.{◌≡◌, ◌≢◌, ◌+◌, ℕ, List, [], ◌∷◌, ◌++◌, length, Option, Some, None, Ok, Bool, true, false, nat_eq, refl, sym, ap, subst, ◌∙◌, append_assoc, inl, inr, ◌⊎◌, ⊎_elim, arith}
+use Rattle.std.proofs.Common.{◌≡◌, ◌≢◌, ◌+◌, ℕ, List, [], ◌∷◌, ◌++◌, length, Option, Some, None, Ok, Bool, true, false, nat_eq, refl, sym, ap, subst, ◌∙◌, append_assoc, inl, ⊎_elim, arith}
 use Rattle.std.specs.Prelude.{All, map, ◌==◌}
 use Rattle.std.specs.List.{flat_map}
 use Rattle.std.specs.Str.{IsUtf8}
 use Rattle.std.specs.Cmp.Lexicographic.{pointwise}
-use Rattle.std.proofs.lemmas.List.{append-nil}
 use Rattle.std.proofs.lemmas.List.Elements.{All-nil, All-head, All-tail}
 use Rattle.std.proofs.lemmas.Str.{IsUtf8-append, IsUtf8-nil}
-use Rattle.std.proofs.lemmas.Bool.{false≢true, eqb-true}
+use Rattle.std.proofs.lemmas.Bool.{false≢true}
 use Rattle.dl_base.specs.declared.names.Value.{Value}
 use Rattle.dl_base.specs.declared.statements.Fact.{Fact}
 use Rattle.dl_base.specs.declared.statements.Fact.TheVariants as fact
@@ -17,10 +16,7 @@ use Rattle.dl_text.specs.Going.{Goes, stop, go}
 use Rattle.text_cuts.specs.Cuts.{IsTag}
 use Rattle.triples.specs.declared.meaning.Said.{Said}
 use Rattle.triples.specs.declared.meaning.Said.TheVariants as saids
-use Rattle.ntriples.specs.declared.files.ReadFacts.{ReadFacts}
-use Rattle.ntriples.specs.declared.grammar.Object.{Object}
-use Rattle.ntriples.specs.declared.grammar.Triple.{Triple}
-use Rattle.ntriples.specs.Files.{Place, LineStep, facts_of, all_skips, SaysAll, Reads}
+use Rattle.ntriples.specs.Files.{LineStep, facts_of, all_skips, Reads}
 use Rattle.ntriples.specs.Meaning.{LineSays}
 use Rattle.ntriples.specs.Printing.{line, lines}
 use Rattle.dl_text.specs.Namespaces.{xsd_string}
@@ -28,7 +24,7 @@ use Rattle.ntriples.specs.Printable.{IsCanonical, IsPrintable}
 use Rattle.ntriples.proofs.FileLaws.{place}
 use Rattle.ntriples.proofs.LineLaws.{lexes_none}
 use Rattle.ntriples.proofs.PrintLaws as print
-use Rattle.ntriples.proofs.AgainLines.{written_as, value_written, triple_of, line_is}
+use Rattle.ntriples.proofs.AgainLines.{written_as, triple_of, line_is}
 use Rattle.ntriples.proofs.AgainMeaning.{says_fact}
 use Rattle.ntriples.proofs.AgainTexts.{IsWritable, IsText, printed_inner, ended_utf8}
 

@@ -1,10 +1,9 @@
 -- What is written for a printable fact says that fact.
-use Rattle.std.proofs.Common.{◌≡◌, ◌≢◌, ◌≤◌, ◌<◌, ℕ, List, [], ◌∷◌, length, Bool, true, false, nat_eq, Some, Ok, refl, sym, ap, subst, ◌∙◌, inl, inr, ◌⊎◌, arith}
-use Rattle.std.specs.Prelude.{codes, cond, ◌==◌, slice_get, map}
-use Rattle.std.specs.Char.{to_ascii_lowercase}
+use Rattle.std.proofs.Common.{◌≡◌, ◌≢◌, ℕ, List, [], ◌∷◌, length, Bool, true, false, nat_eq, Some, Ok, refl, sym, ap, subst, ◌∙◌}
+use Rattle.std.specs.Prelude.{cond, ◌==◌}
 use Rattle.std.specs.Str.{bytes_eq}
-use Rattle.std.specs.Cmp.Lexicographic.{pointwise, same_text, other_text}
-use Rattle.std.proofs.lemmas.Bool.{false≢true, eqb-true, eq-eqb}
+use Rattle.std.specs.Cmp.Lexicographic.{pointwise, same_text}
+use Rattle.std.proofs.lemmas.Bool.{false≢true, eqb-true}
 use Rattle.std.proofs.lemmas.List.{nil_from_length}
 use Rattle.dl_base.specs.declared.names.Value.{Value}
 use Rattle.dl_base.specs.declared.statements.Fact.{Fact}
@@ -13,18 +12,17 @@ use Rattle.dl_base.specs.declared.terms.Kind.{Kind}
 use Rattle.dl_base.specs.declared.terms.Kind.TheVariants as kind
 use Rattle.dl_base.specs.declared.terms.Term.{Term}
 use Rattle.dl_base.specs.Ontologies.{Theory, IsTerm, AreNamedOnce}
-use Rattle.dl_text.specs.Literals.{datatype_of, datatype_or_string, Spells, IsValueOf}
+use Rattle.dl_text.specs.Literals.{datatype_of, Spells, IsValueOf}
 use Rattle.dl_text.specs.Namespaces.{xsd_string}
 use Rattle.triples.specs.Names.{rdf_type}
 use Rattle.triples.specs.declared.meaning.Object as meant_type
 use Rattle.triples.specs.declared.meaning.Object.TheVariants as meanings
-use Rattle.triples.specs.declared.meaning.Said.{Said}
 use Rattle.triples.specs.declared.meaning.Said.TheVariants as saids
 use Rattle.triples.specs.Meaning.{term_of, said_of, is_skipped, class_said, link_said, membership}
 use Rattle.triples.proofs.TermLaws.{found_is}
 use Rattle.ntriples.specs.Printing.{name_of, name_in}
 use Rattle.ntriples.specs.Printable.{IsCanonical, subject_of, predicate_of, object_of, IsPrintable}
-use Rattle.ntriples.specs.Meaning.{IsLiteral, StandsFor, Says}
+use Rattle.ntriples.specs.Meaning.{StandsFor, Says}
 use Rattle.ntriples.proofs.AgainLines.{written_as, value_written, triple_of}
 
 -- a written datatype is none of which nothing is written

@@ -1,6 +1,6 @@
 -- A printed line is text and has no end inside.
 use Rattle.std.proofs.Common.{◌≡◌, ◌≢◌, ◌≤◌, ◌<◌, ℕ, List, [], ◌∷◌, ◌++◌, Bool, true, false, IsTrue, refl, sym, ap, subst, ◌∙◌, append_assoc, inl, inr, ◌⊎◌, ⊎_elim, arith}
-use Rattle.std.specs.Prelude.{All, codes}
+use Rattle.std.specs.Prelude.{All}
 use Rattle.std.specs.Char.{encode_utf8, IsScalar}
 use Rattle.std.specs.Str.{IsUtf8, encode_utf8_all, all_scalars}
 use Rattle.std.proofs.Math.Bool.{and-eq-true_iff}

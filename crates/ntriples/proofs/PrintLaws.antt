@@ -1,6 +1,5 @@
 -- What is written for a triple is read as that triple.
 use Rattle.std.proofs.Common.{◌≡◌, ◌≢◌, ◌≤◌, ℕ, List, [], ◌∷◌, ◌++◌, length, Some, Ok, true, refl, sym, ap, subst, ◌∙◌, inl, inr, ◌⊎◌, append_assoc, IsTrue, arith}
-use Rattle.std.specs.Prelude.{All}
 use Rattle.std.specs.List.{flat_map}
 use Rattle.std.proofs.lemmas.Bool.{false≢true, cases_eq}
 use Rattle.std.proofs.lemmas.List.Elements.{All-weaker}

@@ -1,7 +1,6 @@
 -- Texts without a backslash stand for themselves.
 use Rattle.std.proofs.Common.{◌≡◌, ◌≢◌, ◌≤◌, ◌<◌, ℕ, List, length, sym, subst}
 use Rattle.std.specs.Prelude.{All, Ok, Err}
-use Rattle.dl_text.specs.Escapes.{Undoes}
 use Rattle.dl_text.specs.Outcomes.{ReadsString, longest_text}
 use Rattle.dl_text.specs.declared.escapes.Escapes.TheVariants.{Full}
 use Rattle.dl_text.specs.declared.faults.TextFault.TheVariants.{NameTooLong}

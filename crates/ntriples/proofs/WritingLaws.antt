@@ -2,7 +2,6 @@
 use Rattle.std.proofs.Common.{◌≡◌, ◌+◌, ◌≤◌, ℕ, List, [], ◌++◌, length, take, Option, Some, None, Result, Ok, Err, refl, sym, ap, subst, ◌∙◌, append_assoc, arith}
 use Rattle.std.proofs.Math.Seq.{take-append-add, take-append-le}
 use Rattle.std.proofs.lemmas.List.{append-nil, length-append}
-use Rattle.dl_io.specs.Causes.{Rose}
 use Rattle.dl_io.specs.Writing.{Appends, AppendsFront}
 use Rattle.dl_io.specs.declared.sinks.WriteFault.{WriteFault}
 use Rattle.dl_io.proofs.Appending.{appends_both}

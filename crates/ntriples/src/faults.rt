@@ -3,7 +3,6 @@ ghost use Rattle.ntriples.specs.Faults.{fault_of, refused};
 
 use dl_base::OutOfMemory;
 use dl_text::{ReadKind, ReadRefusal, TextFault};
-use std::alloc::{AllocError, AllocFailed};
 
 /// Why a line isn't read.
 #[derive(Clone, Copy, Debug, PartialEq, Eq)]

@@ -1,4 +1,4 @@
-use Rattle.std.proofs.Common.{◌≡◌, ◌+◌, ◌<◌, List, ℕ, length, drop, ◌++◌, sym, ap, ◌∙◌, arith, take}
+use Rattle.std.proofs.Common.{◌+◌, ◌<◌, List, ℕ, length, drop, ◌++◌, sym, ap, ◌∙◌, arith, take}
 use Rattle.std.proofs.lemmas.List.{take_rest, length-drop}
 use Rattle.dl_text.specs.Printing.{written}
 use Rattle.ntriples.proofs.EscapedLaws.{cut_is}

@@ -1,8 +1,7 @@
-use Rattle.std.proofs.Common.{nat_eq, List, ℕ, sym, ap, subst, ◌∙◌, length}
-use Rattle.std.specs.Prelude.{◌==◌}
+use Rattle.std.proofs.Common.{nat_eq, List, ℕ, sym, ap, subst, ◌∙◌}
 use Rattle.std.specs.Cmp.Lexicographic.{pointwise}
 use Rattle.ntriples.specs.Writing.{IsPut}
-use Rattle.ntriples.proofs.LineParts.{typed_end, typed_end_as}
+use Rattle.ntriples.proofs.LineParts.{typed_end_as}
 use Rattle.ntriples.proofs.writing.put_end.Goals as goal
 
 pub returns-else-eq : goal.returns-else-eq

@@ -1,7 +1,7 @@
 use Rattle.std.proofs.Common.{ℕ, List, ◌++◌, ◌∙◌, sym, subst, append_assoc}
 use Rattle.dl_text.specs.Printing.{written}
 use Rattle.ntriples.specs.Writing.{IsPut}
-use Rattle.ntriples.proofs.WritingLaws.{put_none, put_more, put_rest, put_stopped}
+use Rattle.ntriples.proofs.WritingLaws.{put_more, put_rest, put_stopped}
 use Rattle.ntriples.proofs.writing.put_text.Goals as goal
 
 pub returns-in-Err : goal.returns-in-Err
