@@ -13,8 +13,6 @@ mod reading;
 mod spots;
 mod steps;
 mod syntax;
-#[cfg(test)]
-mod tests;
 mod texts;
 mod tokens;
 mod views;
