@@ -38,19 +38,19 @@ use Rattle.update_read.specs.Meaning.{Names, NameFails, VerbNames, VerbFails, Da
 use Rattle.update_read.proofs.ExactStops.{IsSame}
 use Rattle.update_read.proofs.FinishLaws.{goes_length}
 
-memory : {X : Type 0} (f : TextFault) (kind : ReadKind) → kind_of f ≡ Some kind → ◌≡◌ {A = Result X TextFault} (Err f) (Err faults.OutOfMemory) → ⊥
+pub memory : {X : Type 0} (f : TextFault) (kind : ReadKind) → kind_of f ≡ Some kind → ◌≡◌ {A = Result X TextFault} (Err f) (Err faults.OutOfMemory) → ⊥
 memory f kind e m = let is : f ≡ faults.OutOfMemory = cc in let g : ◌≡◌ {A = Option ReadKind} None (Some kind) = ap kind_of (sym is) ∙ e in cc
 
-same_kind : {X : Type 0} (f g : TextFault) (k l : ReadKind) → kind_of f ≡ Some k → kind_of g ≡ Some l → ◌≡◌ {A = Result X TextFault} (Err f) (Err g) → k ≡ l
+pub same_kind : {X : Type 0} (f g : TextFault) (k l : ReadKind) → kind_of f ≡ Some k → kind_of g ≡ Some l → ◌≡◌ {A = Result X TextFault} (Err f) (Err g) → k ≡ l
 same_kind f g k l e h m = let is : f ≡ g = cc in let j : ◌≡◌ {A = Option ReadKind} (Some k) (Some l) = sym e ∙ ap kind_of is ∙ h in cc
 
-ok_is : {X : Type 0} (x y : X) → ◌≡◌ {A = Result X TextFault} (Ok x) (Ok y) → x ≡ y
+pub ok_is : {X : Type 0} (x y : X) → ◌≡◌ {A = Result X TextFault} (Ok x) (Ok y) → x ≡ y
 ok_is x y e = cc
 
-ok_err : {X : Type 0} (x : X) (f : TextFault) → ◌≡◌ {A = Result X TextFault} (Ok x) (Err f) → ⊥
+pub ok_err : {X : Type 0} (x : X) (f : TextFault) → ◌≡◌ {A = Result X TextFault} (Ok x) (Err f) → ⊥
 ok_err x f e = cc
 
-no_memory : {X : Type 0} (x : X) → ◌≡◌ {A = Result X TextFault} (Ok x) (Err faults.OutOfMemory) → ⊥
+pub no_memory : {X : Type 0} (x : X) → ◌≡◌ {A = Result X TextFault} (Ok x) (Err faults.OutOfMemory) → ⊥
 no_memory x e = cc
 
 module _ (b : Bindings) where

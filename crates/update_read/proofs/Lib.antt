@@ -15,3 +15,4 @@ pub mod KnownLaws
 pub mod ExactCuts
 pub mod ExactStops
 pub mod ExactMeaning
+pub mod ExactText
