@@ -180,10 +180,11 @@ module _ (theory : Theory) where
 
   first_one : (s m n : List Statement) (o p : Outcome) → SaysFirst theory s o m → SaysFirst theory s p n → (o ≡ p) × (m ≡ n)
   first_one s m n o p h k =
-      let same = head_is h.statement k.statement m n (sym h.is ∙ k.is) in
-      (outcome_is o p (h.operation ∙ ap (λ (z : Statement). z.stem.operation) same ∙ sym k.operation)
-       (says_one theory k.statement o.said p.said (subst (λ (z : Statement). Says theory z o.said) same h.says) k.says),
-       tail_is h.statement k.statement m n (sym h.is ∙ k.is))
+      let same = head_is h.statement k.statement m n (sym h.is ∙ k.is) in (
+        outcome_is o p (h.operation ∙ ap (λ (z : Statement). z.stem.operation) same ∙ sym k.operation)
+            (says_one theory k.statement o.said p.said (subst (λ (z : Statement). Says theory z o.said) same h.says) k.says),
+        tail_is h.statement k.statement m n (sym h.is ∙ k.is),
+      )
 
   none_first : (m : List Statement) (o : Outcome) → ¬ SaysFirst theory [] o m
   none_first m o h = let e = h.is in cc

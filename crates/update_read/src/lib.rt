@@ -14,6 +14,8 @@ mod reading;
 mod spots;
 mod steps;
 mod syntax;
+#[cfg(test)]
+mod tests;
 mod texts;
 mod tokens;
 mod views;
