@@ -8,7 +8,7 @@ use Rattle.dl_runs.specs.declared.runs.Class.TheVariants as classes
 use Rattle.dl_runs.specs.Classes.{IsLongest, IsComment, EndsLine}
 use Rattle.dl_runs.proofs.NameLaws.{front_of, PrefixCharacters, prefix_characters, colon_ends, rest_same, equal_by_length, tail_is}
 
-same_front : (xs ys m n : List ℕ) → length xs ≡ length ys → xs ++ m ≡ ys ++ n → (xs ≡ ys) × (m ≡ n)
+pub same_front : (xs ys m n : List ℕ) → length xs ≡ length ys → xs ++ m ≡ ys ++ n → (xs ≡ ys) × (m ≡ n)
 same_front [] [] m n l e = (refl, e)
 same_front [] (y ∷ ys) m n l e = absurd (omega arith)
 same_front (x ∷ xs) [] m n l e = absurd (omega arith)

@@ -12,3 +12,7 @@ pub mod StopLaws
 pub mod FinishLaws
 pub mod ParseLaws
 pub mod KnownLaws
+pub mod ExactCuts
+pub mod ExactStops
+pub mod ExactMeaning
+pub mod ExactText

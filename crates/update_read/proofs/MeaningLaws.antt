@@ -96,7 +96,7 @@ module _ (theory : Theory) (st : Statement) (ts : List Statement) (lists : Lists
   here g = goes_before theory ts [] (st ∷ []) g.outcomes g.goes
 
   -- one triple too many
-  pub too_many : (line : ℕ) → IsGathered theory ts lists → most_triples ≤ lists.triples → line ≡ object_line st.object → IsRefusedBy theory (ts ++ st ∷ []) line kinds.TooManyFacts
+  pub too_many : (line : ℕ) → IsGathered theory ts lists → lists.triples ≡ most_triples → line ≡ object_line st.object → IsRefusedBy theory (ts ++ st ∷ []) line kinds.TooManyFacts
   too_many line g l e = record { outcomes = g.outcomes; statement = st; rest = []; goes = here g; refused = inl (omega (arith, l, g.triples), e, refl) }
 
   -- a triple that fails

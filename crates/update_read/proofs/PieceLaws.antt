@@ -345,3 +345,10 @@ name_answer here b bs (Some cut) f g e i n = name_cuts b bs (f cut) (g cut) (sub
 pub no_number_here : (here : List ℕ) (b : ℕ) (bs : List ℕ) → here ≡ b ∷ bs → BeginsNumber b → ((text rest : List ℕ) → ¬ IsNumber here text rest) → (s : Shape) (rest : List ℕ) → ¬ Cuts here s rest
 no_number_here here b bs e i n s rest h =
     no_number b bs i (subst (λ (z : List ℕ). (text rest : List ℕ) → ¬ IsNumber z text rest) e n) s rest (subst (λ (z : List ℕ). Cuts z s rest) e h)
+
+-- a comment begins with no blank
+pub not_blank_sign : (b : ℕ) → b ≡ 35 → ¬ IsBlank b
+not_blank_sign b e (inl f) = omega (arith, e, f)
+not_blank_sign b e (inr (inl f)) = omega (arith, e, f)
+not_blank_sign b e (inr (inr (inl f))) = omega (arith, e, f)
+not_blank_sign b e (inr (inr (inr f))) = omega (arith, e, f)

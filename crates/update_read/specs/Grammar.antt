@@ -23,41 +23,41 @@ use Rattle.update_read.specs.declared.tokens.Token.TheVariants as tokens
 use Rattle.update_read.specs.Tokens.{Lexeme, at}
 
 -- what a token is: a sign, a word, a tag, a full IRI, the name of a prefix
-abbrev pub mark_of : Token → Option Mark
-mark_of (tokens.Sign m) = Some m
-mark_of token = None
+abbrev pub sign_in : Token → Option Mark
+sign_in (tokens.Sign m) = Some m
+sign_in token = None
 
-abbrev pub keyword_of : Token → Option Keyword
-keyword_of (tokens.Word w) = Some w
-keyword_of token = None
+abbrev pub word_in : Token → Option Keyword
+word_in (tokens.Word w) = Some w
+word_in token = None
 
-abbrev pub tag_of : Token → Option (List ℕ)
-tag_of (tokens.Tag text) = Some text
-tag_of token = None
+abbrev pub tag_in : Token → Option (List ℕ)
+tag_in (tokens.Tag text) = Some text
+tag_in token = None
 
-abbrev pub iri_of : Token → Option (List ℕ)
-iri_of (tokens.Iri name) = Some name
-iri_of token = None
+abbrev pub iri_in : Token → Option (List ℕ)
+iri_in (tokens.Iri name) = Some name
+iri_in token = None
 
-abbrev pub prefix_of : Token → Option (List ℕ)
-prefix_of (tokens.Prefixed prefix []) = Some prefix
-prefix_of token = None
+abbrev pub prefix_in : Token → Option (List ℕ)
+prefix_in (tokens.Prefixed prefix []) = Some prefix
+prefix_in token = None
 
 -- and what a token with its line is
 abbrev pub mark : Lexeme → Option Mark
-mark (at line token) = mark_of token
+mark (at line token) = sign_in token
 
 abbrev pub keyword : Lexeme → Option Keyword
-keyword (at line token) = keyword_of token
+keyword (at line token) = word_in token
 
 abbrev pub tag : Lexeme → Option (List ℕ)
-tag (at line token) = tag_of token
+tag (at line token) = tag_in token
 
 abbrev pub full_iri : Lexeme → Option (List ℕ)
-full_iri (at line token) = iri_of token
+full_iri (at line token) = iri_in token
 
 abbrev pub prefix_name : Lexeme → Option (List ℕ)
-prefix_name (at line token) = prefix_of token
+prefix_name (at line token) = prefix_in token
 
 -- the text of a string, with its line
 abbrev pub string : Lexeme → Option (ℕ × List ℕ)

@@ -156,11 +156,11 @@ pub record Means (theory : Theory) (statements : List Statement) (update : ReadU
   pub deletes : IsOnce (deleted outcomes) update.deletes
   pub skipped : update.skipped ≡ skips outcomes
 
--- the first triple that is refused: one too many, at its object, or one that fails
+-- the first triple that is refused: the first one too many, at its object, or one that fails
 pub record IsRefusedBy (theory : Theory) (statements : List Statement) (line : ℕ) (kind : ReadKind) : Type 0 where
   pub outcomes : List Outcome
   pub statement : Statement
   pub rest : List Statement
   pub goes : Goes (SaysFirst theory) statements outcomes (statement ∷ rest)
-  pub refused : ((most_triples ≤ length outcomes) × (line ≡ object_line statement.object) × (kind ≡ kinds.TooManyFacts))
+  pub refused : ((length outcomes ≡ most_triples) × (line ≡ object_line statement.object) × (kind ≡ kinds.TooManyFacts))
       ⊎ ((length outcomes < most_triples) × Fails theory statement line kind)

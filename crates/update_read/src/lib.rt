@@ -3,6 +3,7 @@
 
 mod cutting;
 mod gathering;
+mod laws;
 mod lexing;
 mod lists;
 mod locals;
@@ -19,4 +20,5 @@ mod texts;
 mod tokens;
 mod views;
 
+pub use laws::reads_one;
 pub use reading::{ReadUpdate, read_update};

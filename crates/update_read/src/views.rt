@@ -12,7 +12,7 @@ use std::alloc::Global;
 
 impl Token {
     pub fn mark(&self) -> Option<Mark>
-        ensures { result ≡ grammar.mark_of self.now }
+        ensures { result ≡ grammar.sign_in self.now }
     {
         match self {
             Token::Sign(mark) => Some(*mark),
@@ -21,7 +21,7 @@ impl Token {
     }
 
     pub fn keyword(&self) -> Option<Keyword>
-        ensures { result ≡ grammar.keyword_of self.now }
+        ensures { result ≡ grammar.word_in self.now }
     {
         match self {
             Token::Word(keyword) => Some(*keyword),
@@ -30,7 +30,7 @@ impl Token {
     }
 
     pub fn tag(&self, alloc: Global) -> Result<Option<Name>, OutOfMemory>
-        ensures { Makes (grammar.tag_of self.now) result }
+        ensures { Makes (grammar.tag_in self.now) result }
     {
         match self {
             Token::Tag(tag) => Ok(Some(tag.copy(alloc)?)),
@@ -39,7 +39,7 @@ impl Token {
     }
 
     pub fn full_iri(&self, alloc: Global) -> Result<Option<Name>, OutOfMemory>
-        ensures { Makes (grammar.iri_of self.now) result }
+        ensures { Makes (grammar.iri_in self.now) result }
     {
         match self {
             Token::Iri(iri) => Ok(Some(iri.copy(alloc)?)),
@@ -49,7 +49,7 @@ impl Token {
 
     /// The name of a prefix: a prefixed name without a local part.
     pub fn prefix_name(&self, alloc: Global) -> Result<Option<Name>, OutOfMemory>
-        ensures { Makes (grammar.prefix_of self.now) result }
+        ensures { Makes (grammar.prefix_in self.now) result }
     {
         match self {
             Token::Prefixed(prefix, local) => {
