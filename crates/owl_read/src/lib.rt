@@ -22,5 +22,7 @@ mod roles;
 mod scope;
 mod sides;
 mod table;
+#[cfg(test)]
+mod tests;
 
 pub use reading::{ReadOntology, read_ontology, read_ontology_over};
