@@ -11,3 +11,4 @@ pub mod KeepPlaces
 pub mod KeepTable
 pub mod KeepRows
 pub mod DocumentLaws
+pub mod ExactReading

@@ -11,6 +11,7 @@ mod concepts;
 mod declarations;
 mod documents;
 mod forms;
+mod laws;
 mod literals;
 mod nodes;
 mod outcomes;
@@ -22,5 +23,8 @@ mod roles;
 mod scope;
 mod sides;
 mod table;
+#[cfg(test)]
+mod tests;
 
+pub use laws::{reads_one, reads_over_one};
 pub use reading::{ReadOntology, read_ontology, read_ontology_over};
