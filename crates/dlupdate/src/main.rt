@@ -11,6 +11,9 @@ mod reports;
 mod texts;
 mod words;
 
+#[cfg(test)]
+mod tests;
+
 use dl_io::{StdFiles, StdSink};
 use offline::run_offline;
 use std::process::ExitCode;
