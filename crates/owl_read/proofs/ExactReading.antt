@@ -1,5 +1,5 @@
 -- A text has one answer at most, but for memory.
-use Rattle.std.proofs.Common.{◌≡◌, ℕ, List, [], ◌∷◌, ◌++◌, Result, Ok, Err, refl, sym, ◌∙◌, ap, subst, append_assoc, inl, inr, ◌⊎◌, ⊎_elim}
+use Rattle.std.proofs.Common.{◌≡◌, ℕ, List, [], ◌∷◌, ◌++◌, Result, Ok, Err, refl, sym, ◌∙◌, ap, subst, append_assoc, inl, inr}
 use Rattle.std.specs.Prelude.{◌+◌, length}
 use Rattle.std.proofs.lemmas.List.{append-nil}
 use Rattle.dl_base.specs.Repeats.{IsOnce}

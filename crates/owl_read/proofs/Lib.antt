@@ -12,3 +12,4 @@ pub mod KeepTable
 pub mod KeepRows
 pub mod DocumentLaws
 pub mod ExactReading
+pub mod UndoneLaws

@@ -26,5 +26,5 @@ mod table;
 #[cfg(test)]
 mod tests;
 
-pub use laws::{reads_one, reads_over_one};
+pub use laws::{reads_one, reads_over_one, tests_agree};
 pub use reading::{ReadOntology, read_ontology, read_ontology_over};
