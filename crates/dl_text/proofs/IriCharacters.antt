@@ -57,7 +57,7 @@ lead : (a b : ℕ) → 128 ≤ a → 128 ≤ a + b
 lead a b h = omega arith
 
 -- a character past ASCII has only bytes past ASCII
-high : (c : ℕ) → 128 ≤ c → IsHigh (encode c)
+pub high : (c : ℕ) → 128 ≤ c → IsHigh (encode c)
 unfolding encode
 high c h =
     let last = lead 128 (c % 64) (omega arith) in

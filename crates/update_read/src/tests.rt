@@ -1,6 +1,6 @@
 mod forms;
 mod refusals;
-mod triples;
+mod lists_and_lines;
 
 use crate::{ReadUpdate, read_update};
 use dl_base::{Fact, Kind, Name, Ontology, Value};
