@@ -12,9 +12,7 @@ use crate::locals::cut_local;
 use crate::numbers::cut_number;
 use crate::texts::cut_string;
 use crate::tokens::{Mark, Piece};
-use dl_runs::{
-    Class, after_comment, behind_byte, cut_name, cut_some, cut_tag, is_blank,
-};
+use dl_runs::{Class, after_comment, behind_byte, cut_name, cut_some, cut_tag, is_blank};
 use dl_text::cut_at;
 
 /// The sign that the byte is.

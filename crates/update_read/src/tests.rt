@@ -1,6 +1,6 @@
 mod forms;
-mod refusals;
 mod lists_and_lines;
+mod refusals;
 
 use crate::{ReadUpdate, read_update};
 use dl_base::{Fact, Kind, Name, Ontology, Value};

@@ -26,8 +26,8 @@ loop-rest-preserved c =
     c.loop-rest.invariant.parsed c.in-Some.ensures c.in-Ok.ensures c.in-Ok-advance.ensures in
     let h : HasFront c.loop-rest.rest.now c.in-Some.behind.now = front_of_piece c.loop-rest.rest.now c.in-Some.behind.now (shape_of c.in-Some.piece) c.in-Some.ensures in
     record {
-        parsed = subst (λ (n : ℕ). IsParsedTo c.args.ontology.now c.args.bytes.now c.in-Ok-advance.then (c.loop-rest.line + n) c.in-Some.behind.now) (sym c.line_ends-line.ensures) more;
-        prefixless = known_behind c.loop-rest.rest.now h.front c.in-Some.behind.now c.prefixless_to-known.result h.is c.prefixless_to-known.ensures
+      parsed = subst (λ (n : ℕ). IsParsedTo c.args.ontology.now c.args.bytes.now c.in-Ok-advance.then (c.loop-rest.line + n) c.in-Some.behind.now) (sym c.line_ends-line.ensures) more;
+      prefixless = known_behind c.loop-rest.rest.now h.front c.in-Some.behind.now c.prefixless_to-known.result h.is c.prefixless_to-known.ensures;
     }
 
 pub returns : goal.returns
