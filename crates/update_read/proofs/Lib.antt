@@ -16,3 +16,4 @@ pub mod ExactCuts
 pub mod ExactStops
 pub mod ExactMeaning
 pub mod ExactText
+pub mod AheadLaws

@@ -11,3 +11,4 @@ pub mod Reading
 pub mod Taking
 pub mod Running
 pub mod Going
+pub mod Ahead

@@ -2,17 +2,17 @@ ghost use Rattle.std.specs.Prelude.{◌≡◌, ◌≢◌, ◌⊎◌, ◌↔◌, 
 ghost use Rattle.std.specs.Char.{is_ascii_digit};
 ghost use Rattle.dl_runs.specs.Classes.{IsBlank, IsLongest, IsName, IsPrefix};
 ghost use Rattle.dl_runs.specs.declared.runs.Class.TheVariants as classes;
+ghost use Rattle.update_read.specs.Ahead.{IsPrefixless};
 ghost use Rattle.update_read.specs.Cutting.{mark_of, CutsAt, Cuts};
 ghost use Rattle.update_read.specs.Names.{BeginsNumber, CutsName};
 ghost use Rattle.update_read.specs.Shapes.{Shape, shape_of};
 
+use crate::ahead::prefix_in_front;
 use crate::locals::cut_local;
 use crate::numbers::cut_number;
 use crate::texts::cut_string;
 use crate::tokens::{Mark, Piece};
-use dl_runs::{
-    Class, after_comment, behind_byte, cut_name, cut_prefix, cut_some, cut_tag, is_blank,
-};
+use dl_runs::{Class, after_comment, behind_byte, cut_name, cut_some, cut_tag, is_blank};
 use dl_text::cut_at;
 
 /// The sign that the byte is.
@@ -45,11 +45,12 @@ fn behind_label(bytes: &[u8]) -> Option<&[u8]>
     }
 }
 
-/// A prefixed name, or else a word.
-fn cut_word(bytes: &[u8]) -> Option<(Piece<'_>, &[u8])>
+/// A prefixed name, or else a word. It is known how far no prefix stands.
+fn cut_word(bytes: &[u8], known: usize) -> Option<(Piece<'_>, &[u8])>
+    requires { IsPrefixless bytes.now known }
     ensures { MatchOption result ((shape : Shape) (rest : List ℕ) → ¬ CutsName bytes.now shape rest) (λ cut. CutsName bytes.now (shape_of cut.0) cut.1.now) }
 {
-    match cut_prefix(bytes) {
+    match prefix_in_front(bytes, known) {
         Some((prefix, after)) => {
             let (local, rest) = cut_local(after);
             Some((Piece::Prefixed(prefix, local), rest))
@@ -91,11 +92,17 @@ fn variable_at(behind: &[u8]) -> Option<(Piece<'_>, &[u8])>
 }
 
 /// The piece at the front of a text that begins with no blank, no sign and no number.
-fn cut_token<'b>(here: &'b [u8], first: u8, behind: &'b [u8]) -> Option<(Piece<'b>, &'b [u8])>
+fn cut_token<'b>(
+    here: &'b [u8],
+    first: u8,
+    behind: &'b [u8],
+    known: usize,
+) -> Option<(Piece<'b>, &'b [u8])>
     requires is { here.now ≡ first ∷ behind.now }
     requires no_blank { ¬ IsBlank first }
     requires no_number { ¬ BeginsNumber first }
     requires no_mark { mark_of first ≡ None }
+    requires prefixless { IsPrefixless here.now known }
     ensures { MatchOption result ((shape : Shape) (rest : List ℕ) → ¬ CutsAt first behind.now shape rest) (λ cut. CutsAt first behind.now (shape_of cut.0) cut.1.now) }
 {
     match first {
@@ -120,12 +127,13 @@ fn cut_token<'b>(here: &'b [u8], first: u8, behind: &'b [u8]) -> Option<(Piece<'
             Some(rest) => Some((Piece::Blank, rest)),
             None => None,
         },
-        _ => cut_word(here),
+        _ => cut_word(here, known),
     }
 }
 
-/// The piece at the front of the text, and what stands behind it.
-pub fn cut(here: &[u8]) -> Option<(Piece<'_>, &[u8])>
+/// The piece at the front of the text, and what stands behind it. It is known how far no prefix stands.
+pub fn cut(here: &[u8], known: usize) -> Option<(Piece<'_>, &[u8])>
+    requires { IsPrefixless here.now known }
     ensures { MatchOption result ((shape : Shape) (rest : List ℕ) → ¬ Cuts here.now shape rest) (λ cut. Cuts here.now (shape_of cut.0) cut.1.now) }
 {
     let Some((first, behind)) = here.split_first() else {
@@ -143,5 +151,5 @@ pub fn cut(here: &[u8]) -> Option<(Piece<'_>, &[u8])>
             None => None,
         };
     }
-    cut_token(here, *first, behind)
+    cut_token(here, *first, behind, known)
 }

@@ -1,6 +1,7 @@
 //! Ground SPARQL 1.1 Updates: the facts that they insert and delete, or the first refusal at its line.
 #![tactic(auto)]
 
+mod ahead;
 mod cutting;
 mod gathering;
 mod laws;

@@ -7,6 +7,7 @@ ghost use Rattle.update_read.specs.Taking.{Gathers};
 ghost use Rattle.update_read.specs.Going.{may_end, IsRead, Fits, IsTold, IsFinished};
 ghost use Rattle.update_read.specs.Outcomes.{ReadsText, ReadsUpdate, KnowsUpdate};
 
+use crate::ahead::prefixless_to;
 use crate::cutting::cut;
 use crate::lexing::token_of;
 use crate::lists::{Gathered, Lists};
@@ -95,8 +96,10 @@ fn read(alloc: Global, bytes: &[u8], ontology: &Ontology) -> Result<ReadUpdate, 
     let mut progress = Progress::start(alloc);
     let mut line = 1;
     let mut rest = bytes;
+    let mut known = bytes.len();
     while !rest.is_empty() {
-        let Some((piece, behind)) = cut(rest) else {
+        known = prefixless_to(rest, known);
+        let Some((piece, behind)) = cut(rest, known) else {
             return Err(ReadRefusal::Refused {
                 line,
                 kind: ReadKind::Syntax,

@@ -1,6 +1,6 @@
 mod forms;
+mod lists_and_lines;
 mod refusals;
-mod triples;
 
 use crate::{ReadUpdate, read_update};
 use dl_base::{Fact, Kind, Name, Ontology, Value};
