@@ -2,18 +2,13 @@
 use Rattle.std.proofs.Common.{◌≡◌, ℕ, zero, suc, ◌<◌, ◌+◌, List, [], ◌∷◌, ◌++◌, length, take, get_or, sym, ◌∙◌, ap, subst, inl, inr, ◌⊎◌, ⊎_elim, arith}
 use Rattle.std.specs.Prelude.{◌↔◌, Some, slice_get, Contains}
 use Rattle.std.proofs.Math.Seq.{take-length}
-use Rattle.std.proofs.lemmas.Bool.{cases_lt}
 use Rattle.std.proofs.lemmas.List.Elements.{Contains-append_left, Contains-append_right, Contains-append_cases}
 use Rattle.dl_base.specs.declared.axioms.Axiom.{Axiom}
 use Rattle.dl_base.specs.declared.statements.Fact.{Fact}
-use Rattle.dl_base.specs.declared.statements.Fact.TheVariants as fact
 use Rattle.dl_base.specs.declared.patterns.Pattern.{Pattern}
-use Rattle.dl_base.specs.declared.patterns.Pattern.TheVariants as asked
-use Rattle.dl_base.specs.declared.terms.Term.{Term}
 use Rattle.dl_base.specs.Clash.{IsConsistent, HasClash}
 use Rattle.dl_base.specs.Derivation.{InClosure, row_of}
 use Rattle.dl_base.specs.FactOrder.{AreSorted, fact_cmp}
-use Rattle.dl_base.specs.Ontologies.{Theory, Knows}
 use Rattle.dl_base.specs.Patterns.{Matches}
 use Rattle.dl_base.specs.Picks.{Picks, Collects}
 use Rattle.dl_base.specs.Updates.{Lists, Meets, IsWellFormed, IsRemoved, IsPut}
@@ -21,10 +16,10 @@ use Rattle.dl_base.proofs.Members.{here, there, alone, among}
 use Rattle.dl_base.proofs.Collecting.{collects_append}
 use Rattle.dl_base.proofs.PicksLaws.{from_picks, into_picks, picks_sorted}
 use Rattle.dl_base.proofs.ClashLaws.{clash_along}
-use Rattle.dl_base.proofs.ClosureLaws.{derived_more, from_one}
+use Rattle.dl_base.proofs.ClosureLaws.{derived_more, from_one, member_in_closure}
 use Rattle.dl_base.proofs.MeetingLaws.{meets_back}
 use Rattle.tbox_closure.proofs.LoopLaws.{take_on}
-use Rattle.entail_guards.specs.Following.{term_number}
+use Rattle.entail_guards.specs.Asking.{IsAsked}
 use Rattle.dl_laws.proofs.Stepping.{step_updates, step_loses}
 use Rattle.update_engine.specs.declared.answers.Step.{Step}
 use Rattle.update_engine.specs.Stepping.{FoundAt, IsFound, FollowsFrom, IsStep}
@@ -68,30 +63,6 @@ follow_all axioms removed xs h f = (
   λ k. let p = place_in removed k.0 k.1 in (h f).1 (p.0, p.1, (k.0, p.2, k.2)),
 )
 
-abbrev pub Covers : ℕ → List Pattern → Type 0
-Covers n patterns = (f : Fact) → term_number f < n → (p : Pattern) × Contains patterns p × Matches p f
-
-number_of : (t s : Term) → t.0 ≡ s.0 → t ≡ s
-number_of t s e = λ i. record { 0 = e i }
-
-module _ (t : Term) (ps : List Pattern) where
-  abbrev one : List Pattern
-  one = ps ++ asked.Class t ∷ []
-
-  abbrev two : List Pattern
-  two = one ++ asked.Role t ∷ []
-
-  later : (p : Pattern) → Contains ps p → Contains (two ++ asked.Attr t ∷ []) p
-  later p m = Contains-append_left two (asked.Attr t ∷ []) p (Contains-append_left one (asked.Role t ∷ []) p (Contains-append_left ps (asked.Class t ∷ []) p m))
-
-  here_at : (f : Fact) → term_number f ≡ t.0 → (p : Pattern) × Contains (two ++ asked.Attr t ∷ []) p × Matches p f
-  here_at (fact.Class k a) e = (asked.Class t, Contains-append_left two (asked.Attr t ∷ []) (asked.Class t) (Contains-append_left one (asked.Role t ∷ []) (asked.Class t) (Contains-append_right ps (asked.Class t ∷ []) (asked.Class t) (here (asked.Class t) []))), number_of t k (sym e))
-  here_at (fact.Role k a b) e = (asked.Role t, Contains-append_left two (asked.Attr t ∷ []) (asked.Role t) (Contains-append_right one (asked.Role t ∷ []) (asked.Role t) (here (asked.Role t) [])), number_of t k (sym e))
-  here_at (fact.Attr k a v) e = (asked.Attr t, Contains-append_right two (asked.Attr t ∷ []) (asked.Attr t) (here (asked.Attr t) []), number_of t k (sym e))
-
-  pub cover_step : Covers t.0 ps → Covers (t.0 + 1) (((ps ++ asked.Class t ∷ []) ++ asked.Role t ∷ []) ++ asked.Attr t ∷ [])
-  cover_step h f l = ⊎_elim (λ m. let r = h f m in (r.0, later r.0 r.1, r.2)) (λ m. here_at f (omega (arith, l, m))) (cases_lt (term_number f) t.0)
-
 abbrev pub Joins : List Fact → List Fact → List Fact → Type 0
 Joins old xs now = (f : Fact) → Contains now f ↔ (Contains old f ⊎ Contains xs f)
 
@@ -110,14 +81,6 @@ join_step old xs now i x l e h = subst (λ z. Joins old z (now ++ x ∷ [])) (sy
 pub join_end : (old xs now : List Fact) (i : ℕ) → i ≡ length xs → Joins old (take i xs) now → Joins old xs now
 join_end old xs now i e h = subst (λ z. Joins old z now) (ap (λ n. take n xs) e ∙ take-length xs) h
 
-pub held_is : (theory : Theory) (patterns view : List Pattern) (old held : List Fact) → view ≡ patterns
-    → ((f : Fact) → Knows theory f → (p : Pattern) × Contains patterns p × Matches p f) → ((f : Fact) → Contains old f → Knows theory f)
-    → Lists (IsFound view old) held → (f : Fact) → Contains held f ↔ Contains old f
-held_is theory patterns view old held e cover known l f = (
-  (λ m. ((l.each f).0 m).0),
-  λ m. (l.each f).1 (m, subst (λ (ps : List Pattern). (p : Pattern) × Contains ps p × Matches p f) (sym e) (cover f (known f m))),
-)
-
 pub through : (P : Fact → Type 0) (xs ys : List Fact) → ((f : Fact) → Contains ys f ↔ Contains xs f) → ((f : Fact) → Contains xs f ↔ P f) → (f : Fact) → Contains ys f ↔ P f
 through P xs ys h k f = ((λ m. (k f).0 ((h f).0 m)), λ q. (h f).1 ((k f).1 q))
 
@@ -126,13 +89,24 @@ module _ (axioms : List Axiom) (old inserts deletes : List Fact) (consistent : I
   pub entailed_alone : (f : Fact) → InClosure axioms old f → ¬ HasClash axioms (f ∷ [])
   entailed_alone f h clash = consistent (clash_along axioms (f ∷ []) old (λ g m. subst (InClosure axioms old) (alone f g m) h) clash)
 
-  module _ (held gone : List Fact) (sorted : AreSorted held) (same : (f : Fact) → Contains held f ↔ Contains old f) (picked : Picks (Meets axioms inserts deletes) held gone) where
+  module _ (held : List Fact) (patterns view : List Pattern) (lists : Lists (IsFound view old) held) where
+    pub held_within : (f : Fact) → Contains held f → Contains old f
+    held_within f m = ((lists.each f).0 m).0
+
+    -- the facts found have all that are to be removed
+    pub held_removed : view ≡ patterns → ((f : Fact) → Contains old f → ¬ HasClash axioms (f ∷ []) → Meets axioms inserts deletes f → IsAsked patterns f)
+        → (f : Fact) → IsRemoved axioms old inserts deletes f → Contains held f
+    held_removed e asks f h =
+        (lists.each f).1 (h.0, subst (λ (ps : List Pattern). IsAsked ps f) (sym e) (asks f h.0 (entailed_alone f (member_in_closure axioms old f h.0)) h.1))
+
+  module _ (held gone : List Fact) (sorted : AreSorted held) (within : (f : Fact) → Contains held f → Contains old f)
+      (all : (f : Fact) → IsRemoved axioms old inserts deletes f → Contains held f) (picked : Picks (Meets axioms inserts deletes) held gone) where
     pub gone_is : Lists (IsRemoved axioms old inserts deletes) gone
     gone_is = record {
       sorted = picks_sorted (Meets axioms inserts deletes) fact_cmp held gone picked sorted;
       each = λ f. (
-        (λ m. let r = from_picks (Meets axioms inserts deletes) held gone f picked m in ((same f).0 r.0, r.1)),
-        λ h. into_picks (Meets axioms inserts deletes) held gone f picked ((same f).1 h.0) h.1,
+        (λ m. let r = from_picks (Meets axioms inserts deletes) held gone f picked m in (within f r.0, r.1)),
+        λ h. into_picks (Meets axioms inserts deletes) held gone f picked (all f h) h.1,
       );
     }
 

@@ -1,16 +1,14 @@
 ghost use Rattle.std.specs.Prelude.{◌≡◌, ◌+◌, ◌↔◌, ◌⊎◌, ◌∷◌, [], IfOk, Contains, length};
 ghost use Rattle.dl_base.specs.Clash.{HasClash};
 ghost use Rattle.dl_base.specs.Ontologies.{Knows};
-ghost use Rattle.dl_base.specs.Patterns.{Matches};
 ghost use Rattle.dl_base.specs.Picks.{Collects, Picks};
 ghost use Rattle.dl_base.specs.Updates.{IsWellFormed, Lists, Meets};
-ghost use Rattle.dl_base.specs.declared.patterns.Pattern as pattern_type;
 ghost use Rattle.dl_base.specs.declared.statements.Fact as fact_type;
 ghost use Rattle.update_engine.specs.Stepping.{FoundAt, IsFound, FollowsFrom};
 
 use crate::meeting::meets;
 use crate::rules::Rules;
-use dl_base::{Fact, FactSet, OutOfMemory, Pattern, Steps, Term, sorted_once};
+use dl_base::{Fact, FactSet, OutOfMemory, Pattern, Steps, sorted_once};
 use std::alloc::Global;
 use std::sync::ledger::Ledger;
 
@@ -41,19 +39,6 @@ fn find_all<S: FactSet, L: Ledger>(
         facts.append(&mut set.find(alloc, pattern, steps)?)?;
     }
     Ok(facts)
-}
-
-/// Patterns of all facts that the ontology knows.
-pub fn all_patterns(alloc: Global, rules: &Rules) -> Result<Vec<Pattern>, OutOfMemory>
-    ensures { IfOk result (λ patterns. (f : fact_type.Fact) → Knows rules.now f → (p : pattern_type.Pattern) × Contains patterns.items p × Matches p f) }
-{
-    let mut patterns = Vec::new(alloc);
-    for number in 0..rules.terms() {
-        patterns.push(Pattern::Class(Term(number as u32)))?;
-        patterns.push(Pattern::Role(Term(number as u32)))?;
-        patterns.push(Pattern::Attr(Term(number as u32)))?;
-    }
-    Ok(patterns)
 }
 
 /// The facts that meet the request.

@@ -1,9 +1,8 @@
-ghost use Rattle.std.specs.Prelude.{◌≡◌, ◌↔◌, ◌∷◌, [], IsTrue, IfOk, Contains, length};
+ghost use Rattle.std.specs.Prelude.{◌≡◌, ◌↔◌, ◌∷◌, [], IsTrue, IfOk, Contains};
 ghost use Rattle.dl_base.specs.Clash.{HasClash};
 ghost use Rattle.dl_base.specs.Derivation.{InClosure};
 ghost use Rattle.dl_base.specs.Ontologies.{Knows};
 ghost use Rattle.dl_base.specs.Updates.{Lists};
-ghost use Rattle.dl_base.specs.Validity.{IsOntology};
 ghost use Rattle.dl_base.specs.declared.statements.Fact as fact_type;
 
 use conflict_rules::Conflicts;
@@ -106,13 +105,6 @@ impl Rules {
         ensures { IsTrue result ↔ InClosure self.now.axioms (first.now ∷ []) second.now }
     {
         self.entailers().entails(first, second)
-    }
-
-    pub(crate) fn terms(&self) -> usize
-        ensures count { result ≡ length self.now.terms }
-        ensures sound { IsOntology self.now }
-    {
-        self.entailers().terms()
     }
 
     pub(crate) fn follows(&self, alloc: Global, given: &Fact) -> Result<Vec<Fact>, OutOfMemory>

@@ -7,7 +7,8 @@ ghost use Rattle.update_engine.specs.Stepping.{IsStep, IsRefusal};
 
 use crate::answers::{Step, StepRefusal};
 use crate::judging::judge;
-use crate::picking::{all_patterns, followers, found, meeting, staying, unheld, with_copies};
+use crate::lookups::meeting_patterns;
+use crate::picking::{followers, found, meeting, staying, unheld, with_copies};
 use crate::rules::Rules;
 use dl_base::{Fact, FactSet, OutOfMemory, Steps, sorted_once};
 use std::alloc::Global;
@@ -48,7 +49,7 @@ fn take_step<S: FactSet, L: Ledger>(
     requires known { (f : fact_type.Fact) → Contains (S.facts set.now) f → Knows rules.now f }
     ensures { IfOk result (IsStep rules.now.axioms (S.facts set.now) inserts.now deletes.now) }
 {
-    let patterns = all_patterns(alloc, rules)?;
+    let patterns = meeting_patterns(alloc, rules, inserts, deletes)?;
     let held = found(alloc, patterns.as_slice(), set, steps)?;
     let removed = meeting(alloc, rules, inserts, deletes, held.as_slice())?;
     let entailed = sorted_once(followers(alloc, rules, removed.as_slice())?)?;

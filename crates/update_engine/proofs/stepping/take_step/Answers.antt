@@ -6,7 +6,7 @@ use Rattle.dl_base.specs.Picks.{Picks, Collects}
 use Rattle.dl_base.specs.Updates.{Meets}
 use Rattle.dl_base.proofs.ClosureLaws.{member_in_closure}
 use Rattle.update_engine.specs.Stepping.{FollowsFrom}
-use Rattle.update_engine.proofs.StepLaws.{held_is, through, gone_is, follow_all, in_old, come_is, step_is, entailed_alone}
+use Rattle.update_engine.proofs.StepLaws.{held_within, held_removed, through, gone_is, follow_all, in_old, come_is, step_is, entailed_alone}
 use Rattle.update_engine.proofs.stepping.take_step.Goals as goal
 
 pub meeting-requires-clause-alone : goal.meeting-requires-clause-alone
@@ -16,8 +16,8 @@ meeting-requires-clause-alone g c f m =
     let inserts = c.args.inserts.now in
     let deletes = c.args.deletes.now in
     let held = c.in_ok-held.held.items in
-    let same = held_is c.args.rules.now c.in_ok-patterns.patterns.items c.as_slice.result.now old held c.as_slice.ensures.value c.in_ok-patterns.ensures c.requires.known c.in_ok-held.ensures in
-    entailed_alone axioms old inserts deletes c.requires.consistent c.requires.well f (member_in_closure axioms old f ((same f).0 (subst (λ (fs : List Fact). Contains fs f) c.as_slice-2.ensures.value m)))
+    let within = held_within axioms old inserts deletes c.requires.consistent c.requires.well held c.in_ok-patterns.patterns.items c.as_slice.result.now c.in_ok-held.ensures in
+    entailed_alone axioms old inserts deletes c.requires.consistent c.requires.well f (member_in_closure axioms old f (within f (subst (λ (fs : List Fact). Contains fs f) c.as_slice-2.ensures.value m)))
 
 pub followers-requires : goal.followers-requires
 followers-requires g c f m =
@@ -26,9 +26,10 @@ followers-requires g c f m =
     let inserts = c.args.inserts.now in
     let deletes = c.args.deletes.now in
     let held = c.in_ok-held.held.items in
-    let same = held_is c.args.rules.now c.in_ok-patterns.patterns.items c.as_slice.result.now old held c.as_slice.ensures.value c.in_ok-patterns.ensures c.requires.known c.in_ok-held.ensures in
+    let within = held_within axioms old inserts deletes c.requires.consistent c.requires.well held c.in_ok-patterns.patterns.items c.as_slice.result.now c.in_ok-held.ensures in
+    let all = held_removed axioms old inserts deletes c.requires.consistent c.requires.well held c.in_ok-patterns.patterns.items c.as_slice.result.now c.in_ok-held.ensures c.as_slice.ensures.value (λ f m. c.in_ok-patterns.ensures f (c.requires.known f m)) in
     let gone = c.in_ok-removed.removed.items in
-    let removes = gone_is axioms old inserts deletes c.requires.consistent c.requires.well held gone c.in_ok-held.ensures.sorted same (subst (λ (fs : List Fact). Picks (Meets axioms inserts deletes) fs gone) c.as_slice-2.ensures.value c.in_ok-removed.ensures) in
+    let removes = gone_is axioms old inserts deletes c.requires.consistent c.requires.well held gone c.in_ok-held.ensures.sorted within all (subst (λ (fs : List Fact). Picks (Meets axioms inserts deletes) fs gone) c.as_slice-2.ensures.value c.in_ok-removed.ensures) in
     c.requires.known f ((removes.each f).0 (subst (λ (fs : List Fact). Contains fs f) c.as_slice-3.ensures.value m)).0
 
 pub meeting-requires-2-clause-alone : goal.meeting-requires-2-clause-alone
@@ -38,9 +39,10 @@ meeting-requires-2-clause-alone g c f m =
     let inserts = c.args.inserts.now in
     let deletes = c.args.deletes.now in
     let held = c.in_ok-held.held.items in
-    let same = held_is c.args.rules.now c.in_ok-patterns.patterns.items c.as_slice.result.now old held c.as_slice.ensures.value c.in_ok-patterns.ensures c.requires.known c.in_ok-held.ensures in
+    let within = held_within axioms old inserts deletes c.requires.consistent c.requires.well held c.in_ok-patterns.patterns.items c.as_slice.result.now c.in_ok-held.ensures in
+    let all = held_removed axioms old inserts deletes c.requires.consistent c.requires.well held c.in_ok-patterns.patterns.items c.as_slice.result.now c.in_ok-held.ensures c.as_slice.ensures.value (λ f m. c.in_ok-patterns.ensures f (c.requires.known f m)) in
     let gone = c.in_ok-removed.removed.items in
-    let removes = gone_is axioms old inserts deletes c.requires.consistent c.requires.well held gone c.in_ok-held.ensures.sorted same (subst (λ (fs : List Fact). Picks (Meets axioms inserts deletes) fs gone) c.as_slice-2.ensures.value c.in_ok-removed.ensures) in
+    let removes = gone_is axioms old inserts deletes c.requires.consistent c.requires.well held gone c.in_ok-held.ensures.sorted within all (subst (λ (fs : List Fact). Picks (Meets axioms inserts deletes) fs gone) c.as_slice-2.ensures.value c.in_ok-removed.ensures) in
     let entailed = c.in_ok-entailed.entailed.items in
     let raw = c.in_ok-followers.field-0.items in
     let follows = through (λ f. (x : Fact) × Contains gone x × InClosure axioms (x ∷ []) f) raw entailed c.in_ok-entailed.ensures.same
@@ -55,9 +57,10 @@ staying-requires-clause-alone g c f m =
     let inserts = c.args.inserts.now in
     let deletes = c.args.deletes.now in
     let held = c.in_ok-held.held.items in
-    let same = held_is c.args.rules.now c.in_ok-patterns.patterns.items c.as_slice.result.now old held c.as_slice.ensures.value c.in_ok-patterns.ensures c.requires.known c.in_ok-held.ensures in
+    let within = held_within axioms old inserts deletes c.requires.consistent c.requires.well held c.in_ok-patterns.patterns.items c.as_slice.result.now c.in_ok-held.ensures in
+    let all = held_removed axioms old inserts deletes c.requires.consistent c.requires.well held c.in_ok-patterns.patterns.items c.as_slice.result.now c.in_ok-held.ensures c.as_slice.ensures.value (λ f m. c.in_ok-patterns.ensures f (c.requires.known f m)) in
     let gone = c.in_ok-removed.removed.items in
-    let removes = gone_is axioms old inserts deletes c.requires.consistent c.requires.well held gone c.in_ok-held.ensures.sorted same (subst (λ (fs : List Fact). Picks (Meets axioms inserts deletes) fs gone) c.as_slice-2.ensures.value c.in_ok-removed.ensures) in
+    let removes = gone_is axioms old inserts deletes c.requires.consistent c.requires.well held gone c.in_ok-held.ensures.sorted within all (subst (λ (fs : List Fact). Picks (Meets axioms inserts deletes) fs gone) c.as_slice-2.ensures.value c.in_ok-removed.ensures) in
     let entailed = c.in_ok-entailed.entailed.items in
     let raw = c.in_ok-followers.field-0.items in
     let follows = through (λ f. (x : Fact) × Contains gone x × InClosure axioms (x ∷ []) f) raw entailed c.in_ok-entailed.ensures.same
@@ -72,9 +75,10 @@ returns g c =
     let inserts = c.args.inserts.now in
     let deletes = c.args.deletes.now in
     let held = c.in_ok-held.held.items in
-    let same = held_is c.args.rules.now c.in_ok-patterns.patterns.items c.as_slice.result.now old held c.as_slice.ensures.value c.in_ok-patterns.ensures c.requires.known c.in_ok-held.ensures in
+    let within = held_within axioms old inserts deletes c.requires.consistent c.requires.well held c.in_ok-patterns.patterns.items c.as_slice.result.now c.in_ok-held.ensures in
+    let all = held_removed axioms old inserts deletes c.requires.consistent c.requires.well held c.in_ok-patterns.patterns.items c.as_slice.result.now c.in_ok-held.ensures c.as_slice.ensures.value (λ f m. c.in_ok-patterns.ensures f (c.requires.known f m)) in
     let gone = c.in_ok-removed.removed.items in
-    let removes = gone_is axioms old inserts deletes c.requires.consistent c.requires.well held gone c.in_ok-held.ensures.sorted same (subst (λ (fs : List Fact). Picks (Meets axioms inserts deletes) fs gone) c.as_slice-2.ensures.value c.in_ok-removed.ensures) in
+    let removes = gone_is axioms old inserts deletes c.requires.consistent c.requires.well held gone c.in_ok-held.ensures.sorted within all (subst (λ (fs : List Fact). Picks (Meets axioms inserts deletes) fs gone) c.as_slice-2.ensures.value c.in_ok-removed.ensures) in
     let entailed = c.in_ok-entailed.entailed.items in
     let raw = c.in_ok-followers.field-0.items in
     let follows = through (λ f. (x : Fact) × Contains gone x × InClosure axioms (x ∷ []) f) raw entailed c.in_ok-entailed.ensures.same
