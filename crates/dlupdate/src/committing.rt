@@ -18,11 +18,13 @@ pub fn committed(
     ensures { IfOk result (λ answer. (stored : List fact_type.Fact) → StandsAt world.old world.old.opening stored
         → Commits world.old.opening stored inserts deletes world.new answer) }
 {
+    // The contracts of the two versions say what stands before and after.
+    let _before = world.version();
     world.step(Event::Begin(0))?;
     match world.step(Event::Change(0, inserts, deletes))? {
         Reply::Lost(lost) => match world.step(Event::Commit(0))? {
             Reply::Committed(_) => {
-                let _version = world.version();
+                let _after = world.version();
                 Ok(Ok(lost))
             }
             // A script's history has room for each of its updates.
