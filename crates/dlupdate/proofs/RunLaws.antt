@@ -44,7 +44,7 @@ told_same contents later P e h = subst (λ (k : Option Contents). IfSome k P) e 
 pub unread_more : (c : Contents) (name : List ℕ) (limit : ℕ) (Refuses : List ℕ → ℕ → ReadKind → Type 0) (status : ℕ) (printed : List ℕ) → IsUnread c name limit NoRefusal status printed → IsUnread c name limit Refuses status printed
 unread_more c name limit Refuses status printed (missing a b d) = missing a b d
 unread_more c name limit Refuses status printed (too_long bytes a b d e) = too_long bytes a b d e
-unread_more c name limit Refuses status printed (refused bytes line kind a no b d) = absurd no
+unread_more c name limit Refuses status printed (refused bytes line kind a none b d) = absurd none
 unread_more c name limit Refuses status printed (failed a b) = failed a b
 
 -- a run ends with a file that its reader refuses
@@ -55,6 +55,27 @@ refused_stop contents name limit bytes Refuses (Refused line kind) (stop.Report 
 refused_stop contents name limit bytes Refuses (Refused line kind) stop.OutOfMemory has refuses h = tt
 refused_stop contents name limit bytes Refuses OutOfMemory (stop.Report r) has refuses h = absurd (let no : ⊥ = cc in no)
 refused_stop contents name limit bytes Refuses OutOfMemory stop.OutOfMemory has refuses h = tt
+
+-- a run ends with a file that is missing, too long or can't be read
+pub missing_stop : (contents : Option Contents) (name : List ℕ) (limit : ℕ) (s : Stop) → Gives contents name limit (Err why.Missing) → IsReported 3 (text.missing name) s → IsStopped contents (λ c. IsUnread c name limit NoRefusal) s
+missing_stop None name limit (stop.Report r) g h = tt
+missing_stop (Some c) name limit (stop.Report r) g h = missing g h.0 h.1
+missing_stop contents name limit stop.OutOfMemory g h = tt
+
+pub long_stop : (contents : Option Contents) (name : List ℕ) (limit : ℕ) (s : Stop) → Gives contents name limit (Err why.TooLong) → IsReported 3 (text.too_long name) s → IsStopped contents (λ c. IsUnread c name limit NoRefusal) s
+long_stop None name limit (stop.Report r) g h = tt
+long_stop (Some c) name limit (stop.Report r) g h = too_long g.0 g.1 g.2 h.0 h.1
+long_stop contents name limit stop.OutOfMemory g h = tt
+
+pub failed_stop : (contents : Option Contents) (name : List ℕ) (limit : ℕ) (s : Stop) → IsReported 6 (text.failed name) s → IsStopped contents (λ c. IsUnread c name limit NoRefusal) s
+failed_stop None name limit (stop.Report r) h = tt
+failed_stop (Some c) name limit (stop.Report r) h = failed h.0 h.1
+failed_stop contents name limit stop.OutOfMemory h = tt
+
+-- bytes that are read are the file's
+pub read_has : (contents : Option Contents) (name : List ℕ) (limit : ℕ) (bytes : List ℕ) → Gives contents name limit (Ok bytes) → IfSome contents (λ c. Has c name limit bytes)
+read_has None name limit bytes g = tt
+read_has (Some c) name limit bytes g = g
 
 other_status : (rose : Type 0) (status other : ℕ) → status ≡ other → ¬ (other ≡ 6) → status ≡ 6 → rose
 other_status rose status other e n six = absurd (n (sym e ∙ six))
@@ -75,7 +96,7 @@ least_least x y m c h r = omega (arith, h, r)
 pub rose_wider : (a b c : ℕ) → a ≤ b → Rose b c → Rose a c
 rose_wider a b c h r = least_least (a + 1) (b + 1) (2 ^ 64 - 1) c (omega (arith, h)) r
 
-rose_later : (a b c : ℕ) → b ≤ c → Rose a b → Rose a c
+pub rose_later : (a b c : ℕ) → b ≤ c → Rose a b → Rose a c
 rose_later a b c h r = omega (arith, h, r)
 
 pub only_wider : (rose wider : Type 0) (s : Stop) → (rose → wider) → StopsOnly rose s → StopsOnly wider s

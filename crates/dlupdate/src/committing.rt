@@ -1,4 +1,4 @@
-ghost use Rattle.std.specs.Prelude.{◌≡◌, List, All, IfOk};
+ghost use Rattle.std.specs.Prelude.{◌≡◌, [], List, All, IfOk};
 ghost use Rattle.dl_base.specs.Ontologies.{Theory, Knows};
 ghost use Rattle.dl_base.specs.declared.statements.Fact as fact_type;
 ghost use Rattle.dlupdate.specs.Committing.{StandsAt, Commits};
