@@ -1,6 +1,6 @@
 -- One update, begun, changed and committed by the core.
 use Rattle.std.proofs.Common.{◌≡◌, ◌↔◌, ◌⊎◌, ℕ, ◌+◌, List, [], ◌∷◌, ◌++◌, length, refl, sym, ◌∙◌, ap, subst, inl, inr, ⊎_elim}
-use Rattle.std.specs.Prelude.{Contains, take}
+use Rattle.std.specs.Prelude.{Contains, All, Ok, Err, take}
 use Rattle.std.proofs.Math.Seq.{take-length}
 use Rattle.dl_base.specs.declared.axioms.Axiom.{Axiom}
 use Rattle.dl_base.specs.declared.statements.Fact.{Fact}
@@ -11,7 +11,7 @@ use Rattle.dl_base.specs.declared.requests.Request.TheVariants.{Change, Ask}
 use Rattle.dl_base.specs.Commits as outcome
 use Rattle.dl_base.specs.FactOrder.{AreSorted}
 use Rattle.dl_base.specs.Histories.{IsVersion, in_force, in_force_at}
-use Rattle.dl_base.specs.Ontologies.{Theory}
+use Rattle.dl_base.specs.Ontologies.{Theory, Knows}
 use Rattle.dl_base.specs.Transactions.{Runs, done, then, Serves, IsChange}
 use Rattle.dl_base.specs.Updates.{Lists, IsStored, IsLost, IsWellFormed}
 use Rattle.dl_base.proofs.HistoryLaws.{after_within, version_is_one, version_last}
@@ -23,7 +23,7 @@ use Rattle.transaction.specs.declared.events.Reply.TheVariants as reply
 use Rattle.transaction.specs.Worlds.{Begun, State, Has, StepsTo}
 use Rattle.update_engine.specs.declared.judging.IllFormed.{IllFormed}
 use Rattle.update_engine.specs.Judging.{IsNamed}
-use Rattle.dlupdate.specs.Committing.{StandsAt}
+use Rattle.dlupdate.specs.Committing.{StandsAt, Commits}
 
 -- the state with this transaction of editor 0 alone
 abbrev pub with_one : State → List Request → State
@@ -139,3 +139,27 @@ module _ (s : State) (theory : Theory) (opens : s.opening ≡ theory) (force : i
         ap (λ (x : State). x.begun) is ∙ ap (λ (x : Begun). Rattle.transaction.specs.Worlds.others x.editor (with_one s (Change inserts deletes ∷ [])).begun) it,
         same ∙ new_is,
       )
+
+-- the change has room in a transaction that was begun just now, and knows its terms
+pub room_is : (s t : State) (r : Reply) → s.begun ≡ [] → StepsTo s (event.Begin 0) r t → (b : Begun) → Has t 0 b → b.requests ≡ []
+room_is s t r idle h b has = room_in s b (subst (λ (u : State). Has u 0 b) (begin_is s t r idle h) has)
+
+pub known_is : (s t : State) (r : Reply) (inserts deletes : List Fact) → s.begun ≡ [] → StepsTo s (event.Begin 0) r t → All (Knows s.opening) inserts × All (Knows s.opening) deletes → All (Knows t.opening) inserts × All (Knows t.opening) deletes
+known_is s t r inserts deletes idle h known = subst (λ (u : State). All (Knows u.opening) inserts × All (Knows u.opening) deletes) (sym (begin_is s t r idle h)) known
+
+-- an update that is begun, changed and committed is taken
+pub committed_is : (s t u v : State) (r : Reply) (stored version inserts deletes lost : List Fact) (n : ℕ) → in_force s.opening s.entries ≡ s.opening → s.begun ≡ [] → IsVersion s.facts s.entries stored
+    → StepsTo s (event.Begin 0) r t → StepsTo t (event.Change 0 inserts deletes) (reply.Lost lost) u → StepsTo u (event.Commit 0) (reply.Committed n) v → IsVersion v.facts v.entries version → AreSorted version
+    → Commits s.opening stored inserts deletes v (Ok lost)
+committed_is s t u v r stored version inserts deletes lost n force idle stands begins changes commits after sorted =
+    let change = subst (λ (x : State). StepsTo x (event.Change 0 inserts deletes) (reply.Lost lost) u) (begin_is s t r idle begins) changes in
+    let (next, changed) = changes_it s s.opening refl force stored stands inserts deletes lost u change in
+    let commit = subst (λ (x : State). StepsTo x (event.Commit 0) (reply.Committed n) v) changed.state_is commits in
+    let (opens, idle_after, same) = commits_it s s.opening refl force stored stands inserts deletes next version n v changed.stored_is commit after sorted in
+    (next, (opens, idle_after, subst (λ (facts : List Fact). IsVersion v.facts v.entries facts) same after), changed.well, changed.stored_is, changed.lost_is)
+
+-- an update that contradicts itself is named
+pub named_is : (s t u v : State) (r : Reply) (stored inserts deletes : List Fact) (name : IllFormed) → in_force s.opening s.entries ≡ s.opening → s.begun ≡ [] → IsVersion s.facts s.entries stored
+    → StepsTo s (event.Begin 0) r t → StepsTo t (event.Change 0 inserts deletes) (reply.IllFormed name) u → Commits s.opening stored inserts deletes v (Err name)
+named_is s t u v r stored inserts deletes name force idle stands begins changes =
+    names_it s s.opening refl force stored stands inserts deletes name u (subst (λ (x : State). StepsTo x (event.Change 0 inserts deletes) (reply.IllFormed name) u) (begin_is s t r idle begins) changes)

@@ -1,4 +1,7 @@
+pub mod CommandLaws
 pub mod CommittingLaws
 pub mod FollowingLaws
+pub mod OpeningLaws
 pub mod RunLaws
+pub mod TextLaws
 pub mod WordLaws

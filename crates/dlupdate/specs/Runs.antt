@@ -104,6 +104,10 @@ pub data Follows (contents : Contents) (theory : Theory) (head : ℕ → List �
       → GivesUpdate contents theory name update → Takes theory stored update lost next → Follows contents theory head (n + 1) next names status rest
       → printed ≡ text.updated (head n) theory update.skipped lost ++ rest → Follows contents theory head n stored (name ∷ names) status printed
 
+-- from these opening facts, in order
+abbrev pub FollowsFrom : Contents → Theory → (ℕ → List ℕ) → List Fact → List (List ℕ) → ℕ → List ℕ → Type 0
+FollowsFrom contents theory head facts names status printed = (base : List Fact) × Lists (Contains facts) base × Follows contents theory head 0 base names status printed
+
 -- `apply` prints nothing before its one update, and `script` the number of each
 abbrev pub no_head : ℕ → List ℕ
 no_head n = []
@@ -123,14 +127,12 @@ pub data Comes (contents : Contents) (words : List (List ℕ)) (status : ℕ) (p
       → printed ≡ text.checked (length theory.terms) (length all) skipped → Comes contents words status printed
   unapplied : (ontology : List ℕ) (updates : List (List ℕ)) → Says words (Apply ontology updates) → Unopened contents ontology None status printed → Comes contents words status printed
   -- the update is taken over the ontology's own assertions
-  applies : (ontology : List ℕ) (updates : List (List ℕ)) (theory : Theory) (all base : List Fact) (skipped : ℕ) → Says words (Apply ontology updates)
-      → Opens contents ontology None theory all skipped → IsConsistent theory.axioms all → Lists (Contains all) base
-      → Follows contents theory no_head 0 base updates status printed → Comes contents words status printed
+  applies : (ontology : List ℕ) (updates : List (List ℕ)) (theory : Theory) (all : List Fact) (skipped : ℕ) → Says words (Apply ontology updates)
+      → Opens contents ontology None theory all skipped → IsConsistent theory.axioms all → FollowsFrom contents theory no_head all updates status printed → Comes contents words status printed
   unscripted : (ontology facts : List ℕ) (updates : List (List ℕ)) → Says words (Script ontology facts updates) → Unopened contents ontology (Some facts) status printed → Comes contents words status printed
   -- the updates are taken one after another
-  scripts : (ontology facts : List ℕ) (updates : List (List ℕ)) (theory : Theory) (all base : List Fact) (skipped : ℕ) → Says words (Script ontology facts updates)
-      → Opens contents ontology (Some facts) theory all skipped → IsConsistent theory.axioms all → Lists (Contains all) base
-      → Follows contents theory numbered 0 base updates status printed → Comes contents words status printed
+  scripts : (ontology facts : List ℕ) (updates : List (List ℕ)) (theory : Theory) (all : List Fact) (skipped : ℕ) → Says words (Script ontology facts updates)
+      → Opens contents ontology (Some facts) theory all skipped → IsConsistent theory.axioms all → FollowsFrom contents theory numbered all updates status printed → Comes contents words status printed
 
 -- a report, where the contents of the files are told
 abbrev pub IsTold : Option Contents → (Contents → ℕ → List ℕ → Type 0) → Report → Type 0

@@ -2,6 +2,7 @@ ghost use Rattle.std.specs.Prelude.{◌≡◌, ◌≤◌, List, ℕ, IfOk, IfErr
 ghost use Rattle.std.specs.Option.{option_copied};
 ghost use Rattle.dl_io.specs.Causes.{Rose};
 ghost use Rattle.dlupdate.specs.Commands.{Says, Check, Apply, Script, words_of};
+ghost use Rattle.dlupdate.specs.Held.{said};
 ghost use Rattle.dlupdate.specs.Runs.{Comes, IsTold, IsStopped, FailsOnly, StopsOnly};
 
 use crate::following::followed;
@@ -25,7 +26,22 @@ pub fn run<F: Files>(alloc: Global, words: &[String], files: &mut F) -> Result<R
             text: error_text(alloc, b"words")?,
         });
     };
-    let ran = match command {
+    match ran(alloc, files, command) {
+        Ok(report) => Ok(report),
+        Err(Stop::Report(report)) => Ok(report),
+        Err(Stop::OutOfMemory) => Err(OutOfMemory),
+    }
+}
+
+/// The run of a command.
+fn ran<F: Files>(alloc: Global, files: &mut F, command: Command<'_>) -> Result<Report, Stop>
+    ensures ok { IfOk result (λ report. (words : List (List ℕ)) → Says words (said command.entry) → IsTold (F.contents files.old) (λ c. Comes c words) report) }
+    ensures stopped { IfErr result (λ s. (words : List (List ℕ)) → Says words (said command.entry) → IsStopped (F.contents files.old) (λ c. Comes c words) s) }
+    ensures fine { IfOk result (λ report. report.status ≡ 0) }
+    ensures failed { IfErr result (StopsOnly (Rose (F.faults files.old) (F.faults files.new))) }
+    ensures later { F.faults files.old ≤ F.faults files.new }
+{
+    match command {
         Command::Check { ontology, facts } => check(alloc, files, ontology, facts),
         Command::Apply { ontology, updates } => apply(alloc, files, ontology, updates),
         Command::Script {
@@ -33,11 +49,6 @@ pub fn run<F: Files>(alloc: Global, words: &[String], files: &mut F) -> Result<R
             facts,
             updates,
         } => script(alloc, files, ontology, facts, updates),
-    };
-    match ran {
-        Ok(report) => Ok(report),
-        Err(Stop::Report(report)) => Ok(report),
-        Err(Stop::OutOfMemory) => Err(OutOfMemory),
     }
 }
 

@@ -1,13 +1,12 @@
-ghost use Rattle.std.specs.Prelude.{◌≡◌, ◌≤◌, ◌++◌, [], List, Contains, IfOk, IfErr, IfSome};
+ghost use Rattle.std.specs.Prelude.{◌≡◌, ◌≤◌, ◌++◌, [], List, IfOk, IfErr};
 ghost use Rattle.dl_base.specs.declared.statements.Fact as fact_type;
-ghost use Rattle.dl_base.specs.Updates.{Lists};
 ghost use Rattle.dl_io.specs.Causes.{Rose};
 ghost use Rattle.dl_base.specs.Clash.{IsConsistent};
 ghost use Rattle.dlupdate.specs.Commands.{words_of};
 ghost use Rattle.dlupdate.specs.Committing.{StandsAt};
 ghost use Rattle.dlupdate.specs.Opening.{IsBase};
 ghost use Rattle.dlupdate.specs.Following.{head_of, IsPart, EndsHere};
-ghost use Rattle.dlupdate.specs.Runs.{Follows, IsStopped, StopsOnly};
+ghost use Rattle.dlupdate.specs.Runs.{FollowsFrom, IsTold, IsStopped, StopsOnly};
 
 use crate::committing::committed;
 use crate::files::update_in;
@@ -32,13 +31,10 @@ pub fn followed<F: Files>(
     numbered: bool,
 ) -> Result<Report, Stop>
     requires base { IsBase opened }
-    ensures ok { IfOk result (λ report. (base : List fact_type.Fact) → Lists (Contains opened.facts.items) base
-        → IfSome (F.contents files.old) (λ c. Follows c opened.ontology (head_of numbered) 0 base (words_of updates.now) report.status report.text.items)) }
-    ensures stopped { IfErr result (λ s. (base : List fact_type.Fact) → Lists (Contains opened.facts.items) base
-        → IsStopped (F.contents files.old) (λ c. Follows c opened.ontology (head_of numbered) 0 base (words_of updates.now)) s) }
+    ensures ok { IfOk result (IsTold (F.contents files.old) (λ c. FollowsFrom c opened.ontology (head_of numbered) opened.facts.items (words_of updates.now))) }
+    ensures stopped { IfErr result (IsStopped (F.contents files.old) (λ c. FollowsFrom c opened.ontology (head_of numbered) opened.facts.items (words_of updates.now))) }
     ensures fine { IfOk result (λ report. report.status ≡ 0) }
     ensures failed { IfErr result (StopsOnly (Rose (F.faults files.old) (F.faults files.new))) }
-    ensures same { F.contents files.new ≡ F.contents files.old }
     ensures later { F.faults files.old ≤ F.faults files.new }
 {
     let Opened {

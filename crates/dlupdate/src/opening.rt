@@ -1,7 +1,7 @@
 ghost use Rattle.std.specs.Prelude.{◌≡◌, ◌≤◌, IfOk, IfErr, IfSome, Some, None};
 ghost use Rattle.std.specs.Option.{option_copied};
 ghost use Rattle.dl_io.specs.Causes.{Rose};
-ghost use Rattle.dlupdate.specs.Opening.{IsBase, IsContradicted};
+ghost use Rattle.dlupdate.specs.Opening.{IsBase, IsContradicted, IsUnloaded};
 ghost use Rattle.dlupdate.specs.Runs.{Opens, Unopened, IsStopped, StopsOnly};
 
 use crate::files::{FACTS_LIMIT, ontology_in, read_file, refused_file};
@@ -82,8 +82,20 @@ pub fn opened_with<F: Files>(
         bytes.as_slice(),
     ) {
         Ok(it) => Ok(it),
-        Err(LoadRefusal::Facts(refusal)) => Err(refused_file(alloc, facts, refusal)),
-        Err(refusal) => Err(contradicting(alloc, &kept, &refusal)),
+        Err(refusal) => Err(unloaded(alloc, facts, &kept, &refusal)),
+    }
+}
+
+/// The end of a run whose file of facts is refused, or whose opening facts contradict the axioms.
+fn unloaded(alloc: Global, name: &str, ontology: &Ontology, refusal: &LoadRefusal) -> Stop
+    ensures { IsUnloaded ontology.now name.now refusal.now result }
+{
+    match refusal {
+        LoadRefusal::Facts(why) => refused_file(alloc, name, *why),
+        LoadRefusal::Alone(_)
+        | LoadRefusal::Pair(_, _)
+        | LoadRefusal::Ontology(_)
+        | LoadRefusal::OutOfMemory => contradicting(alloc, ontology, refusal),
     }
 }
 
