@@ -1,4 +1,4 @@
-ghost use Rattle.std.specs.Prelude.{◌≡◌, ◌↔◌, ◌∷◌, [], IfOk, Contains};
+ghost use Rattle.std.specs.Prelude.{◌≡◌, ◌↔◌, ◌∷◌, [], IfOk};
 ghost use Rattle.dl_base.specs.Clash.{HasClash};
 ghost use Rattle.dl_base.specs.Ontologies.{Knows};
 ghost use Rattle.dl_base.specs.Patterns.{Matches};
@@ -84,5 +84,77 @@ fn only(alloc: Global, given: &Fact) -> Result<Pattern, OutOfMemory>
         Fact::Attr(attr, name, value) => {
             Ok(Pattern::AttrBoth(*attr, name.copy(alloc)?, value.copy(alloc)?))
         }
+    }
+}
+
+#[cfg(test)]
+mod tests {
+    use super::*;
+    use crate::judging::judge;
+    use crate::university::{
+        BADGE, COURSE, HEAD_OF, Line, PERSON, PROF, STAFF, STUDENT, TEACHES, facts, university,
+    };
+    use std::test::Fail;
+
+    const STORED: [Line; 8] = [
+        (PROF, "ann", ""),
+        (STAFF, "bob", ""),
+        (TEACHES, "ann", "cs1"),
+        (HEAD_OF, "ann", "d1"),
+        (HEAD_OF, "bob", "d2"),
+        (PERSON, "ann", ""),
+        (BADGE, "ann", "7"),
+        (TEACHES, "bob", "cs2"),
+    ];
+
+    /// Of each stored fact whether one of the patterns asks for it, as `x` or `.`.
+    fn asked(
+        alloc: Global,
+        rules: &Rules,
+        inserts: &[Line],
+        deletes: &[Line],
+    ) -> Result<String, Fail> {
+        let inserts = facts(alloc, inserts)?;
+        let deletes = facts(alloc, deletes)?;
+        let stored = facts(alloc, &STORED)?;
+        let mut marks = String::new(alloc);
+        let inserted = inserts.as_slice();
+        let deleted = deletes.as_slice();
+        if let Err(_) = judge(rules, inserted, deleted) {
+            return Ok(marks);
+        }
+        let patterns = meeting_patterns(alloc, rules, inserted, deleted)?;
+        for fact in stored.iter() {
+            let is_asked = patterns.iter().any(|pattern| pattern.matches(fact));
+            marks.push(if is_asked { 'x' } else { '.' })?;
+        }
+        Ok(marks)
+    }
+
+    #[test]
+    fn what_meets_is_asked_for_and_nothing_else(rt: HostRuntime) -> Result<(), Fail> {
+        let alloc = rt.alloc();
+        let rules = university(alloc)?;
+        let nothing: &[Line] = &[];
+        let student: &[Line] = &[(STUDENT, "ann", "")];
+        let head: &[Line] = &[(HEAD_OF, "ann", "d2")];
+        let badge: &[Line] = &[(BADGE, "ann", "8")];
+        let person: &[Line] = &[(PERSON, "ann", "")];
+        let course: &[Line] = &[(COURSE, "cs2", "")];
+        let teaches: &[Line] = &[(TEACHES, "bob", "cs2")];
+        for (inserts, deletes, want) in [
+            (nothing, nothing, "........"),
+            (student, nothing, "x.x....."),
+            (head, nothing, "...x...."),
+            (badge, nothing, "......x."),
+            (nothing, person, "x.x..x.."),
+            (nothing, course, ".......x"),
+            (nothing, teaches, ".......x"),
+            (head, person, "x.xx.x.."),
+        ] {
+            let marks = asked(alloc, &rules, inserts, deletes)?;
+            assert_eq!(rt; marks.as_str(), want);
+        }
+        Ok(())
     }
 }
