@@ -113,14 +113,14 @@ fn a_change_of_nothing_is_an_entry(rt: HostRuntime) -> Result<(), Fail> {
 /// Begins a transaction, makes its change and commits it, over facts whose repeats are dropped.
 fn holds(rt: &impl Abort, alloc: Global, row: Row<'_>) -> Result<(), Fail> {
     let mut world = opened(rt, alloc, row.stored, 1)?;
-    assert_eq!(rt; begun(alloc, &mut world)?.as_str(), "Begun(0)");
+    assert!(rt; begins(alloc, &mut world, "Begun(0)")?);
     let lost = match change(rt, alloc, &mut world, row.inserts, row.deletes)? {
         Reply::Lost(lost) => lost,
         reply => panic!(rt; "{reply:?}"),
     };
     assert!(rt; are(alloc, lost.as_slice(), row.lost)?, "{lost:?}");
     stands(rt, alloc, &world, 0, row.stored)?;
-    assert_eq!(rt; committed(alloc, &mut world)?.as_str(), "Committed(1)");
+    assert!(rt; commits(alloc, &mut world, "Committed(1)")?);
     stands(rt, alloc, &world, 1, row.after)?;
     entered(rt, alloc, world.entries(), row)?;
     Ok(())
@@ -167,11 +167,11 @@ fn a_change_that_contradicts_itself_is_not_recorded(rt: HostRuntime) -> Result<(
         (prof, person, "IllFormed(Entails(0, 1))"),
     ] {
         let mut world = opened(&rt, alloc, stored, 1)?;
-        assert_eq!(rt; begun(alloc, &mut world)?.as_str(), "Begun(0)");
+        assert!(rt; begins(alloc, &mut world, "Begun(0)")?);
         let reply = change(&rt, alloc, &mut world, inserts, deletes)?;
-        assert_eq!(rt; format!(in alloc; "{reply:?}")?.as_str(), want);
+        assert!(rt; is(alloc, &reply, want)?, "{reply:?}");
         stands(&rt, alloc, &world, 0, stored)?;
-        assert_eq!(rt; committed(alloc, &mut world)?.as_str(), "ReadOnly(0)");
+        assert!(rt; commits(alloc, &mut world, "ReadOnly(0)")?);
         stands(&rt, alloc, &world, 0, stored)?;
     }
     Ok(())
@@ -181,13 +181,13 @@ fn a_change_that_contradicts_itself_is_not_recorded(rt: HostRuntime) -> Result<(
 fn events_out_of_turn_are_refused(rt: HostRuntime) -> Result<(), Fail> {
     let alloc = rt.alloc();
     let mut world = opened(&rt, alloc, &[], 1)?;
-    assert_eq!(rt; committed(alloc, &mut world)?.as_str(), "NoTransaction");
+    assert!(rt; commits(alloc, &mut world, "NoTransaction")?);
     let reply = change(&rt, alloc, &mut world, &[(PROF, "ann", "")], &[])?;
-    assert_eq!(rt; format!(in alloc; "{reply:?}")?.as_str(), "NoTransaction");
-    assert_eq!(rt; begun(alloc, &mut world)?.as_str(), "Begun(0)");
-    assert_eq!(rt; begun(alloc, &mut world)?.as_str(), "AlreadyBegun");
-    assert_eq!(rt; committed(alloc, &mut world)?.as_str(), "ReadOnly(0)");
-    assert_eq!(rt; committed(alloc, &mut world)?.as_str(), "NoTransaction");
+    assert!(rt; is(alloc, &reply, "NoTransaction")?, "{reply:?}");
+    assert!(rt; begins(alloc, &mut world, "Begun(0)")?);
+    assert!(rt; begins(alloc, &mut world, "AlreadyBegun")?);
+    assert!(rt; commits(alloc, &mut world, "ReadOnly(0)")?);
+    assert!(rt; commits(alloc, &mut world, "NoTransaction")?);
     stands(&rt, alloc, &world, 0, &[])?;
     Ok(())
 }
@@ -198,14 +198,14 @@ fn a_full_history_takes_no_more(rt: HostRuntime) -> Result<(), Fail> {
     let alloc = rt.alloc();
     let mut world = opened(&rt, alloc, &[], 1)?;
     let ann: &[Line] = &[(PROF, "ann", "")];
-    assert_eq!(rt; begun(alloc, &mut world)?.as_str(), "Begun(0)");
+    assert!(rt; begins(alloc, &mut world, "Begun(0)")?);
     change(&rt, alloc, &mut world, ann, &[])?;
-    assert_eq!(rt; committed(alloc, &mut world)?.as_str(), "Committed(1)");
-    assert_eq!(rt; begun(alloc, &mut world)?.as_str(), "Begun(1)");
+    assert!(rt; commits(alloc, &mut world, "Committed(1)")?);
+    assert!(rt; begins(alloc, &mut world, "Begun(1)")?);
     change(&rt, alloc, &mut world, &[], ann)?;
     for _ in 0..2 {
-        assert_eq!(rt; committed(alloc, &mut world)?.as_str(), "HistoryFull(1)");
-        assert_eq!(rt; begun(alloc, &mut world)?.as_str(), "AlreadyBegun");
+        assert!(rt; commits(alloc, &mut world, "HistoryFull(1)")?);
+        assert!(rt; begins(alloc, &mut world, "AlreadyBegun")?);
         stands(&rt, alloc, &world, 1, ann)?;
     }
     Ok(())
@@ -228,16 +228,22 @@ fn opened(
     Ok(world)
 }
 
-/// The reply to a begin.
-fn begun(alloc: Global, world: &mut World<PlainSet>) -> Result<String, Fail> {
+/// Whether a begin is answered so.
+fn begins(alloc: Global, world: &mut World<PlainSet>, want: &str) -> Result<bool, Fail> {
     let reply = world.step(Event::Begin(0))?;
-    Ok(format!(in alloc; "{reply:?}")?)
+    is(alloc, &reply, want)
 }
 
-/// The reply to a commit.
-fn committed(alloc: Global, world: &mut World<PlainSet>) -> Result<String, Fail> {
+/// Whether a commit is answered so.
+fn commits(alloc: Global, world: &mut World<PlainSet>, want: &str) -> Result<bool, Fail> {
     let reply = world.step(Event::Commit(0))?;
-    Ok(format!(in alloc; "{reply:?}")?)
+    is(alloc, &reply, want)
+}
+
+/// Whether the reply is the wanted one, by its text.
+fn is(alloc: Global, reply: &Reply, want: &str) -> Result<bool, Fail> {
+    let told = format!(in alloc; "{reply:?}")?;
+    Ok(told.as_str() == want)
 }
 
 /// The reply to a change, of a transaction that has none.
