@@ -13,7 +13,11 @@ type Line = (u32, &'static str, &'static str);
 #[test]
 fn consistent_facts_are_opened_as_they_are(rt: HostRuntime) -> Result<(), Fail> {
     let alloc = rt.alloc();
-    let lines: &[Line] = &[(TEACHES, "ann", "cs1"), (STUDENT, "bob", ""), (TEACHES, "ann", "cs1")];
+    let lines: &[Line] = &[
+        (TEACHES, "ann", "cs1"),
+        (STUDENT, "bob", ""),
+        (TEACHES, "ann", "cs1"),
+    ];
     let it = match answer(&rt, alloc, lines)? {
         Ok(it) => it,
         Err(refusal) => panic!(rt; "{refusal:?}"),
@@ -29,12 +33,31 @@ fn consistent_facts_are_opened_as_they_are(rt: HostRuntime) -> Result<(), Fail> 
 #[test]
 fn the_first_contradiction_is_named(rt: HostRuntime) -> Result<(), Fail> {
     let alloc = rt.alloc();
-    let apart: &[Line] = &[(STUDENT, "ann", ""), (TEACHES, "bob", "cs1"), (TEACHES, "ann", "cs1")];
-    let heads: &[Line] = &[(HEAD_OF, "ann", "d1"), (HEAD_OF, "ann", "d2"), (HEAD_OF, "ann", "d3")];
-    let alone: &[Line] = &[(HEAD_OF, "ann", "d1"), (HEAD_OF, "ann", "d2"), (BADGE, "bob", "x"), (HEAD_OF, "cy", "cy")];
+    let apart: &[Line] = &[
+        (STUDENT, "ann", ""),
+        (TEACHES, "bob", "cs1"),
+        (TEACHES, "ann", "cs1"),
+    ];
+    let heads: &[Line] = &[
+        (HEAD_OF, "ann", "d1"),
+        (HEAD_OF, "ann", "d2"),
+        (HEAD_OF, "ann", "d3"),
+    ];
+    let alone: &[Line] = &[
+        (HEAD_OF, "ann", "d1"),
+        (HEAD_OF, "ann", "d2"),
+        (BADGE, "bob", "x"),
+        (HEAD_OF, "cy", "cy"),
+    ];
     for (lines, want) in [
-        (apart, &[(STUDENT, "ann", ""), (TEACHES, "ann", "cs1")].as_slice()),
-        (heads, &[(HEAD_OF, "ann", "d1"), (HEAD_OF, "ann", "d2")].as_slice()),
+        (
+            apart,
+            &[(STUDENT, "ann", ""), (TEACHES, "ann", "cs1")].as_slice(),
+        ),
+        (
+            heads,
+            &[(HEAD_OF, "ann", "d1"), (HEAD_OF, "ann", "d2")].as_slice(),
+        ),
         (alone, &[(BADGE, "bob", "x")].as_slice()),
     ] {
         let refusal = match answer(&rt, alloc, lines)? {

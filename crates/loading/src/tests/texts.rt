@@ -50,12 +50,22 @@ fn skipped_triples_are_counted_to_the_end(rt: HostRuntime) -> Result<(), Fail> {
 fn a_file_is_refused_as_its_reader_says(rt: HostRuntime) -> Result<(), Fail> {
     let alloc = rt.alloc();
     let rows: &[Row] = &[
-        (0, "", "<u:ann> <u:teaches> <u:cs1> .\n<u:ann> <u:teaches>", "Syntax 2"),
+        (
+            0,
+            "",
+            "<u:ann> <u:teaches> <u:cs1> .\n<u:ann> <u:teaches>",
+            "Syntax 2",
+        ),
         (0, "", "_:ann <u:teaches> <u:cs1> .", "BlankNode 1"),
         (0, "", "\n\n<u:ann> <u:leads> <u:cs1> .", "UnknownTerm 3"),
         (0, "", "<u:ann> <u:badge> <u:cs1> .", "WrongKind 1"),
         // The facts before the bad line contradict the axioms, and the line comes first.
-        (0, "", "<u:ann> <u:headOf> <u:ann> .\n<u:ann> <u:teaches>", "Syntax 2"),
+        (
+            0,
+            "",
+            "<u:ann> <u:headOf> <u:ann> .\n<u:ann> <u:teaches>",
+            "Syntax 2",
+        ),
     ];
     for row in rows {
         told_so(&rt, alloc, *row)?;
@@ -67,7 +77,12 @@ fn a_file_is_refused_as_its_reader_says(rt: HostRuntime) -> Result<(), Fail> {
 fn facts_that_contradict_the_axioms_are_refused(rt: HostRuntime) -> Result<(), Fail> {
     let alloc = rt.alloc();
     let rows: &[Row] = &[
-        (0, "", "<u:ann> <u:badge> \"x\" .", "alone <u:ann> <u:badge> \"x\" .\n"),
+        (
+            0,
+            "",
+            "<u:ann> <u:badge> \"x\" .",
+            "alone <u:ann> <u:badge> \"x\" .\n",
+        ),
         (
             0,
             "",
@@ -101,7 +116,13 @@ fn told_so(rt: &impl Abort, alloc: Global, row: Row) -> Result<(), Fail> {
         Ok(given) => given,
         Err(refusal) => panic!(rt; "{refusal:?}"),
     };
-    let found = load_over(alloc, ontology, given.facts.as_slice(), given.skipped, text.as_bytes());
+    let found = load_over(
+        alloc,
+        ontology,
+        given.facts.as_slice(),
+        given.skipped,
+        text.as_bytes(),
+    );
     let told = match found {
         Ok(opened) => opened_told(alloc, &opened)?,
         Err(refusal) => refusal_told(alloc, &refusal)?,
@@ -119,9 +140,7 @@ fn opened_told(alloc: Global, opened: &Opened) -> Result<String, Fail> {
 /// The lines of the facts that contradict the axioms, or the kind of the file's refusal and its line.
 fn refusal_told(alloc: Global, refusal: &LoadRefusal) -> Result<String, Fail> {
     match refusal {
-        LoadRefusal::Alone(fact) => {
-            Ok(format!(in alloc; "alone {}", line_of(alloc, fact)?)?)
-        }
+        LoadRefusal::Alone(fact) => { Ok(format!(in alloc; "alone {}", line_of(alloc, fact)?)?) }
         LoadRefusal::Pair(fact, other) => {
             Ok(format!(in alloc; "pair {}{}", line_of(alloc, fact)?, line_of(alloc, other)?)?)
         }
