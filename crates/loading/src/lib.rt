@@ -3,6 +3,8 @@
 
 mod opening;
 mod refusals;
+#[cfg(test)]
+mod tests;
 
 pub use opening::{Opened, load_over, open};
 pub use refusals::LoadRefusal;

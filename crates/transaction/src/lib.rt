@@ -4,6 +4,8 @@
 mod changes;
 mod entries;
 mod events;
+#[cfg(test)]
+mod samples;
 mod worlds;
 
 pub use events::{Event, Reply};

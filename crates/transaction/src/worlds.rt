@@ -264,3 +264,6 @@ fn counted<V: Versions, L: Ledger>(
     let mut steps: Steps<L> = Steps::new(blank);
     step(alloc, rules, version, inserts, deletes, &mut steps)
 }
+
+#[cfg(test)]
+mod tests;
