@@ -42,8 +42,8 @@ one_begun s requests = record { editor = 0; base = length s.entries; requests = 
 pub begin_is : (s t : State) (r : Reply) → s.begun ≡ [] → StepsTo s (event.Begin 0) r t → t ≡ with_one s []
 begin_is s t (reply.Begun n) idle h =
     h.2 ∙ (λ i.
-        let others : List Begun = Rattle.transaction.specs.Worlds.others 0 (idle i) in
-        let it : State = record { opening = s.opening; facts = s.facts; limit = s.limit; entries = s.entries; begun = (let b : Begun = record { editor = 0; base = h.1 i; requests = [] } in b) ∷ others } in it)
+    let others : List Begun = Rattle.transaction.specs.Worlds.others 0 (idle i) in
+    let it : State = record { opening = s.opening; facts = s.facts; limit = s.limit; entries = s.entries; begun = (let b : Begun = record { editor = 0; base = h.1 i; requests = [] } in b) ∷ others } in it)
 begin_is s t reply.AlreadyBegun idle h = absurd (nowhere h.0.0 (subst (λ (bs : List Begun). Contains bs h.0.0) idle h.0.1.0))
 begin_is s t (reply.Lost x) idle h = absurd h
 begin_is s t (reply.IllFormed x) idle h = absurd h
@@ -104,8 +104,7 @@ module _ (s : State) (theory : Theory) (opens : s.opening ≡ theory) (force : i
       let at : take b.base s.entries ≡ s.entries = ap (λ (x : Begun). take x.base s.entries) it ∙ take-length s.entries in
       let old_is : old ≡ stored = version_is_one s.facts s.entries old stored (subst (λ (es : List Entry). IsVersion s.facts es old) at version) stands in
       let mid_is : mid ≡ stored = none_runs (in_force_at s.opening s.entries b.base).axioms old mid b.requests replies run (ap (λ (x : Begun). x.requests) it) ∙ old_is in
-      let served = subst (λ (m : List Fact). Serves theory.axioms (Change inserts deletes) m lost new) mid_is (subst (λ (x : Theory). Serves x.axioms (Change inserts deletes) mid lost new) force_is serves) in
-      (
+      let served = subst (λ (m : List Fact). Serves theory.axioms (Change inserts deletes) m lost new) mid_is (subst (λ (x : Theory). Serves x.axioms (Change inserts deletes) mid lost new) force_is serves) in (
         new,
         record {
           well = subst (λ (x : Theory). IsWellFormed x.axioms inserts deletes) force_is well;
@@ -126,15 +125,14 @@ module _ (s : State) (theory : Theory) (opens : s.opening ≡ theory) (force : i
       let (old, new, replies, at, run, changed) = commit.run in
       let old_is : old ≡ stored = version_is_one s.facts s.entries old stored at stands in
       let runs : Lists (IsStored theory.axioms old inserts deletes) new =
-          one_runs theory.axioms old new inserts deletes b.requests replies (subst (λ (x : Theory). Runs x.axioms old b.requests replies new) (force ∙ opens) run) (ap (λ (x : Begun). x.requests) it) in
+      one_runs theory.axioms old new inserts deletes b.requests replies (subst (λ (x : Theory). Runs x.axioms old b.requests replies new) (force ∙ opens) run) (ap (λ (x : Begun). x.requests) it) in
       let new_is : new ≡ next = same_lists (IsStored theory.axioms stored inserts deletes) new next (subst (λ (o : List Fact). Lists (IsStored theory.axioms o inserts deletes) new) old_is runs) stored_is in
       let here : IsVersion s.facts (s.entries ++ entry ∷ []) version =
-          subst (λ (es : List Entry). IsVersion s.facts es version) (ap (λ (x : State). x.entries) is ∙ grown) (subst (λ (fs : List Fact). IsVersion fs t.entries version) (ap (λ (x : State). x.facts) is) after) in
+      subst (λ (es : List Entry). IsVersion s.facts es version) (ap (λ (x : State). x.entries) is ∙ grown) (subst (λ (fs : List Fact). IsVersion fs t.entries version) (ap (λ (x : State). x.facts) is) after) in
       let (before, before_is, is_after) = version_last s.facts s.entries entry version here in
       let before_old : before ≡ old = version_is_one s.facts s.entries before old before_is at in
       let last : IsChange old version entry.changed = subst (λ (o : List Fact). IsChange o version entry.changed) before_old is_after.1 in
-      let same : version ≡ new = same_facts version new sorted runs.sorted (after_within old version new entry.changed last changed) (after_within old new version entry.changed changed last) in
-      (
+      let same : version ≡ new = same_facts version new sorted runs.sorted (after_within old version new entry.changed last changed) (after_within old new version entry.changed changed last) in (
         ap (λ (x : State). x.opening) is,
         ap (λ (x : State). x.begun) is ∙ ap (λ (x : Begun). Rattle.transaction.specs.Worlds.others x.editor (with_one s (Change inserts deletes ∷ [])).begun) it,
         same ∙ new_is,

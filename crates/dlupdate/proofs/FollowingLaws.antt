@@ -50,7 +50,7 @@ module _ (contents : Option Contents) (theory : Theory) (head : ℕ → List ℕ
       at None g s = tt
       at (Some c) g s = λ status rest f.
           let here : Follows c theory head n stored (name ∷ drop (n + 1) names) status (part ++ rest) =
-              goes n stored name (drop (n + 1) names) status (part ++ rest) rest update lost next g takes f (ap (λ (p : List ℕ). p ++ rest) is) in
+          goes n stored name (drop (n + 1) names) status (part ++ rest) rest update lost next g takes f (ap (λ (p : List ℕ). p ++ rest) is) in
           subst (λ (p : List ℕ). Follows c theory head 0 base names status p) (sym (append_assoc printed part rest))
           (s status (part ++ rest) (subst (λ (ns : List (List ℕ)). Follows c theory head n stored ns status (part ++ rest)) (sym split) here))
 
@@ -63,7 +63,7 @@ module _ (contents : Option Contents) (theory : Theory) (head : ℕ → List ℕ
       at None s = tt
       at (Some c) s = subst (λ (p : List ℕ). Follows c theory head 0 base names report.status p) (sym is)
           (s report.status (text.stored theory stored) (subst (λ (ns : List (List ℕ)). Follows c theory head n stored ns report.status (text.stored theory stored)) (sym none)
-              (ends n stored report.status (text.stored theory stored) zero refl)))
+          (ends n stored report.status (text.stored theory stored) zero refl)))
 
   pub stopped_here : (n : ℕ) (stored : List Fact) (printed name : List ℕ) (report all : Report) → drop n names ≡ name ∷ drop (n + 1) names
       → EndsHere contents theory head n stored name (stop.Report report) → all.status ≡ report.status → all.text.items ≡ printed ++ report.text.items
@@ -133,15 +133,14 @@ AtUpdate contents theory head facts names w n printed = (base stored : List Fact
 -- before the first update
 pub starts_at : (contents : Option Contents) (head : ℕ → List ℕ) (names : List (List ℕ)) (it : Opened) (w : State) (printed : List ℕ) → IsBase it → (w.opening ≡ arc_value it.rules) × Lists (Contains it.facts.items) w.facts
     → (w.entries ≡ []) × (w.begun ≡ []) → printed ≡ [] → AtUpdate contents it.ontology head it.facts.items names w 0 printed
-starts_at contents head names it w printed is_base opening nothing none =
-    (
-      w.facts,
-      w.facts,
-      opening.1,
-      (opening.0 ∙ is_base.rules, nothing.1, subst (λ (es : List Entry). IsVersion w.facts es w.facts) (sym nothing.0) refl),
-      consistent_within it.ontology.axioms w.facts it.facts.items (λ f m. (opening.1.each f).0 m) is_base.consistent,
-      subst (λ (p : List ℕ). SoFar contents it.ontology head w.facts names 0 w.facts p) (sym none) (none_so_far contents it.ontology head w.facts names w.facts refl),
-    )
+starts_at contents head names it w printed is_base opening nothing none = (
+  w.facts,
+  w.facts,
+  opening.1,
+  (opening.0 ∙ is_base.rules, nothing.1, subst (λ (es : List Entry). IsVersion w.facts es w.facts) (sym nothing.0) refl),
+  consistent_within it.ontology.axioms w.facts it.facts.items (λ f m. (opening.1.each f).0 m) is_base.consistent,
+  subst (λ (p : List ℕ). SoFar contents it.ontology head w.facts names 0 w.facts p) (sym none) (none_so_far contents it.ontology head w.facts names w.facts refl),
+)
 
 module _ (contents : Option Contents) (theory : Theory) (head : ℕ → List ℕ) (facts : List Fact) (names : List (List ℕ)) (w : State) (n : ℕ) (printed : List ℕ) (at : AtUpdate contents theory head facts names w n printed) where
   pub idle_at : w.begun ≡ []

@@ -8,11 +8,10 @@ mod following;
 mod offline;
 mod opening;
 mod reports;
-mod texts;
-mod words;
-
 #[cfg(test)]
 mod tests;
+mod texts;
+mod words;
 
 use dl_io::{StdFiles, StdSink};
 use offline::run_offline;

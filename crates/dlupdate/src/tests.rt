@@ -33,7 +33,8 @@ ClassAssertion(<http://u.example/Student> <http://u.example/ann>)
 ";
 
 /// Bob is a student, ann is what she was, and bob has a label.
-const STAFF: &str = "<http://u.example/bob> <http://www.w3.org/1999/02/22-rdf-syntax-ns#type> <http://u.example/Student> .
+const STAFF: &str =
+    "<http://u.example/bob> <http://www.w3.org/1999/02/22-rdf-syntax-ns#type> <http://u.example/Student> .
 <http://u.example/ann> <http://www.w3.org/1999/02/22-rdf-syntax-ns#type> <http://u.example/Prof> .
 <http://u.example/bob> <http://www.w3.org/2000/01/rdf-schema#label> \"Bob\" .
 ";

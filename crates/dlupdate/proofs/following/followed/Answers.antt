@@ -29,8 +29,7 @@ loop-number-preserved g c =
     let within : c.loop-number.number < length c.args.updates.now = omega arith in
     let split = name_at c.args.updates.now c.loop-number.number c.index-updates-number.result within c.index-updates-number.is ∙ (λ i. sym c.as_str.ensures.value i ∷ drop (c.loop-number.number + 1) (words_of c.args.updates.now)) in
     let taken = goes_on (g.F.Files.contents c.args.files.now) c.args.opened.ontology (head_of c.args.numbered) c.args.opened.facts.items (words_of c.args.updates.now) c.loop-number.world c.loop-number.number c.loop-number.text.items c.loop-number.invariant.0 c.as_str.result.now c.in-Ok.part.items c.part.new.world split
-        (λ stored stands consistent. subst (λ (k : Option Contents). IsPart k c.args.opened.ontology (head_of c.args.numbered) c.loop-number.number stored c.as_str.result.now c.part.new.world c.in-Ok.part.items) c.loop-number.invariant.1 (c.in-Ok.ensures.ok stored stands consistent)) in
-    (
+    (λ stored stands consistent. subst (λ (k : Option Contents). IsPart k c.args.opened.ontology (head_of c.args.numbered) c.loop-number.number stored c.as_str.result.now c.part.new.world c.in-Ok.part.items) c.loop-number.invariant.1 (c.in-Ok.ensures.ok stored stands consistent)) in (
       subst (λ (p : List ℕ). AtUpdate (g.F.Files.contents c.args.files.now) c.args.opened.ontology (head_of c.args.numbered) c.args.opened.facts.items (words_of c.args.updates.now) c.part.new.world (c.loop-number.number + 1) p) (sym (c.in_ok-extend_from_slice-in-Ok.ensures.items ∙ ap (λ (q : List ℕ). c.loop-number.text.items ++ q) c.as_slice.ensures.value)) taken,
       c.in-Ok.ensures.same ∙ c.loop-number.invariant.1,
       omega (arith, c.in-Ok.ensures.later, c.loop-number.invariant.2),
@@ -40,10 +39,12 @@ pub returns-in-Err-Report-clause-stopped : goal.returns-in-Err-Report-clause-sto
 returns-in-Err-Report-clause-stopped g c =
     let within : c.loop-number.number < length c.args.updates.now = omega arith in
     let split = name_at c.args.updates.now c.loop-number.number c.index-updates-number.result within c.index-updates-number.is ∙ (λ i. sym c.as_str.ensures.value i ∷ drop (c.loop-number.number + 1) (words_of c.args.updates.now)) in
+    let same = rw c.in-Err-Report.field-0-is at c.in_ok-behind-in-Err-Report.ensures.0 in
+    let items = rw c.in-Err-Report.field-0-is at c.in_ok-behind-in-Err-Report.ensures.1 in
     stops_at (g.F.Files.contents c.args.files.now) c.args.opened.ontology (head_of c.args.numbered) c.args.opened.facts.items (words_of c.args.updates.now) c.loop-number.world c.loop-number.number c.loop-number.text.items c.loop-number.invariant.0 c.as_str.result.now c.in-Err-Report.report c.in_ok-behind-in-Err-Report.field-0 split
     (λ stored stands. subst (λ (k : Option Contents). EndsHere k c.args.opened.ontology (head_of c.args.numbered) c.loop-number.number stored c.as_str.result.now (stop.Report c.in-Err-Report.report)) c.loop-number.invariant.1
-        (subst (λ (s : Stop). EndsHere (g.F.Files.contents c.loop-number.files) c.args.opened.ontology (head_of c.args.numbered) c.loop-number.number stored c.as_str.result.now s) c.in-Err-Report.field-0-is (c.in-Err-Report.ensures.stopped stored stands)))
-    c.in_ok-behind-in-Err-Report.ensures.0 c.in_ok-behind-in-Err-Report.ensures.1
+    (subst (λ (s : Stop). EndsHere (g.F.Files.contents c.loop-number.files) c.args.opened.ontology (head_of c.args.numbered) c.loop-number.number stored c.as_str.result.now s) c.in-Err-Report.field-0-is (c.in-Err-Report.ensures.stopped stored stands)))
+    same items
 
 pub returns-clause-ok : goal.returns-clause-ok
 returns-clause-ok g c =

@@ -4,7 +4,6 @@ use Rattle.dl_base.specs.declared.statements.Fact.{Fact}
 use Rattle.dl_base.specs.Ontologies.{Theory}
 use Rattle.loading.specs.Loading.{Loads}
 use Rattle.dlupdate.specs.Opening.{IsUnloaded}
-
 use Rattle.dlupdate.proofs.OpeningLaws.{base_of, no_ontology_stop, no_facts_stop, loads_ok, loads_stop, unloaded_only}
 use Rattle.dlupdate.proofs.opening.opened_with.Goals as goal
 
