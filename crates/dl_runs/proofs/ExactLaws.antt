@@ -1,4 +1,4 @@
--- The longest front, a comment and a prefix are cut in one way.
+-- The longest front, a string, a comment and a prefix are cut in one way.
 use Rattle.std.proofs.Common.{◌≡◌, ◌≢◌, ℕ, List, [], ◌∷◌, ◌++◌, length, refl, sym, ap, subst, ◌∙◌, arith, inl, inr}
 use Rattle.std.specs.Prelude.{All, ◌⊎◌}
 use Rattle.std.specs.Str.{encode_utf8_all}
@@ -6,7 +6,11 @@ use Rattle.std.proofs.lemmas.List.{length-append}
 use Rattle.std.proofs.lemmas.List.Elements.{All-head, All-tail}
 use Rattle.dl_runs.specs.declared.runs.Class.TheVariants as classes
 use Rattle.dl_runs.specs.Classes.{IsLongest, IsComment, EndsLine}
-use Rattle.dl_runs.proofs.NameLaws.{front_of, PrefixCharacters, prefix_characters, colon_ends, rest_same, equal_by_length, tail_is}
+use Rattle.dl_text.specs.Escapes.{joined}
+use Rattle.dl_text.proofs.GoingLaws.{goes_one}
+use Rattle.dl_runs.specs.Quotes.{InText, IsQuoted}
+use Rattle.dl_runs.proofs.TextLaws.{in_text_one, stops_at_quote}
+use Rattle.dl_runs.proofs.NameLaws.{front_of, PrefixCharacters, colon_ends, rest_same, equal_by_length, tail_is}
 
 pub same_front : (xs ys m n : List ℕ) → length xs ≡ length ys → xs ++ m ≡ ys ++ n → (xs ≡ ys) × (m ≡ n)
 same_front [] [] m n l e = (refl, e)
@@ -49,6 +53,11 @@ line_one (x ∷ xs) (y ∷ ys) m n e p q h k = line_one xs ys m n (cc) (All-tail
 
 pub comment_one : (raw m n : List ℕ) → IsComment raw m → IsComment raw n → m ≡ n
 comment_one raw m n h k = line_one h.inner k.inner m n (sym h.is ∙ k.is) h.inside k.inside h.ends k.ends
+
+pub quoted_one : (raw v w m n : List ℕ) → IsQuoted raw v m → IsQuoted raw w n → (v ≡ w) × (m ≡ n)
+quoted_one raw v w m n (ps, g, e) (qs, h, f) =
+    let one = goes_one InText in_text_one raw (34 ∷ m) (34 ∷ n) ps qs g h (stops_at_quote m) (stops_at_quote n) in
+    (e ∙ ap joined one.0 ∙ sym f, tail_is 34 34 m n one.1)
 
 pub prefix_one : (raw p q a b : List ℕ) → raw ≡ p ++ 58 ∷ a → raw ≡ q ++ 58 ∷ b → PrefixCharacters p → PrefixCharacters q → (p ≡ q) × (a ≡ b)
 prefix_one raw p q a b e f (ps, h, x, s) (qs, k, y, t) =

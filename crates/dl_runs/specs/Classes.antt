@@ -48,6 +48,10 @@ pub record IsName (first more : Class) (text : List ℕ) : Type 0 where
 abbrev pub IsPrefix : List ℕ → Type 0
 IsPrefix text = (text ≡ []) ⊎ IsName classes.Base classes.Prefix text
 
+-- a base letter, a low line or a digit, then name characters and dots, and no dot at the end: a blank node's label of N-Triples and SPARQL
+abbrev pub IsLabel : List ℕ → Type 0
+IsLabel text = IsName classes.LabelStart classes.Prefix text
+
 -- at raw stands a hyphen with letters and digits
 abbrev pub IsSubtag : List ℕ → List ℕ → List ℕ → Type 0
 IsSubtag raw part rest = IsSome classes.LetterOrDigit part × (raw ≡ 45 ∷ (part ++ rest))

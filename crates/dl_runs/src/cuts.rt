@@ -1,6 +1,6 @@
 ghost use Rattle.std.specs.Prelude.{◌≡◌, ◌≢◌, ◌⊎◌, ℕ, List, [], ◌∷◌, ◌++◌, All, MatchOption, IsTrue, ◌↔◌};
 ghost use Rattle.dl_runs.specs.declared.runs.Class.TheVariants as classes;
-ghost use Rattle.dl_runs.specs.Classes.{IsComment, IsLongest, IsSome, IsName, IsSubtag, IsTag, IsPrefix, IsBlank};
+ghost use Rattle.dl_runs.specs.Classes.{IsComment, IsLongest, IsSome, IsName, IsLabel, IsSubtag, IsTag, IsPrefix, IsBlank};
 ghost use Rattle.dl_runs.specs.Runs.{BeginsNo};
 
 use crate::runs::{Class, behind_one, run, run_undotted};
@@ -112,4 +112,14 @@ pub fn cut_name(bytes: &[u8], first: Class, more: Class) -> Option<(&[u8], &[u8]
         None => None,
         Some(_) => Some((name, rest)),
     }
+}
+
+/// The label behind the `_:` of a blank node, as long as it can be, and what stands behind it.
+///
+/// `BLANK_NODE_LABEL` of SPARQL 1.1 and N-Triples.
+pub fn cut_label(bytes: &[u8]) -> Option<(&[u8], &[u8])>
+    ensures { MatchOption result ((label rest : List ℕ) → ¬ IsLongest IsLabel bytes.now label rest)
+        (λ cut. IsLongest IsLabel bytes.now cut.0.now cut.1.now) }
+{
+    cut_name(bytes, Class::LabelStart, Class::Prefix)
 }

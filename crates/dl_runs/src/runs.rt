@@ -1,8 +1,8 @@
-ghost use Rattle.std.specs.Prelude.{◌≡◌, ◌++◌, ◌∷◌, [], ◌≤◌, ◌<◌, ◌≢◌, ◌⊎◌, List, ℕ, length, take, MatchOption};
+ghost use Rattle.std.specs.Prelude.{◌≡◌, ◌++◌, ◌∷◌, [], ◌≤◌, ◌<◌, ◌≢◌, ◌⊎◌, List, ℕ, length, take, MatchOption, IsTrue};
 ghost use Rattle.std.specs.Char.{encode_utf8, IsScalar};
 ghost use Rattle.std.specs.Str.{StartsWithNoChar, IsUtf8};
 ghost use Rattle.dl_runs.specs.Classes.{is_of, IsOf, BeginsWith};
-ghost use Rattle.dl_runs.specs.Runs.{IsRun, IsUndotted};
+ghost use Rattle.dl_runs.specs.Runs.{IsPlain, HasPlainFront, IsStretch, IsRun, IsUndotted};
 
 use dl_text::{is_pn_base, is_pn_char};
 
@@ -96,18 +96,56 @@ pub fn behind_one(bytes: &[u8], class: Class) -> Option<&[u8]>
     }
 }
 
+/// Whether the byte is an ASCII letter, a digit or a low line of the class, as most characters of names are.
+fn is_plain(class: Class, byte: u8) -> bool
+    ensures { IsTrue result → IsPlain class byte }
+{
+    match class {
+        Class::Letter | Class::Base => byte.is_ascii_alphabetic(),
+        Class::Digit => byte.is_ascii_digit(),
+        Class::LetterOrDigit => byte.is_ascii_alphanumeric(),
+        _ => byte.is_ascii_alphanumeric() || byte == b'_',
+    }
+}
+
+/// What stands behind the plain bytes of the class in front.
+fn behind_plain(bytes: &[u8], class: Class) -> &[u8]
+    ensures { HasPlainFront class bytes.now result.now }
+{
+    let mut rest = bytes;
+    while let Some((first, behind)) = rest.split_first() {
+        if !is_plain(class, *first) {
+            return rest;
+        }
+        rest = behind;
+    }
+    rest
+}
+
+/// What stands behind one or more characters of the class in front: all plain bytes there, or one character.
+fn behind_some(bytes: &[u8], class: Class) -> Option<&[u8]>
+    ensures { MatchOption result (¬ BeginsWith class bytes.now) (λ rest. IsStretch class bytes.now rest.now) }
+{
+    let rest = behind_plain(bytes, class);
+    if rest.len() < bytes.len() {
+        Some(rest)
+    } else {
+        behind_one(bytes, class)
+    }
+}
+
 /// The characters of the class in front, as many as there are, and what stands behind them.
 pub fn run(bytes: &[u8], class: Class) -> (&[u8], &[u8])
     ensures { IsRun class bytes.now result.0.now result.1.now }
 {
     let mut rest = bytes;
-    while let Some(behind) = behind_one(rest, class) {
+    while let Some(behind) = behind_some(rest, class) {
         rest = behind;
     }
     bytes.split_at(bytes.len() - rest.len())
 }
 
-/// Where the text without dots at its end goes to behind one character more.
+/// Where the text without dots at its end goes to behind a stretch more.
 fn end_behind<'b>(rest: &'b [u8], behind: &'b [u8], end: &'b [u8]) -> &'b [u8]
     ensures { ((more : List ℕ) × (rest.now ≡ 46 ∷ more) × (result.now ≡ end.now)) ⊎ (((more : List ℕ) → rest.now ≢ 46 ∷ more) × (result.now ≡ behind.now)) }
 {
@@ -123,7 +161,7 @@ pub fn run_undotted(bytes: &[u8], class: Class) -> (&[u8], &[u8])
 {
     let mut rest = bytes;
     let mut end = bytes;
-    while let Some(behind) = behind_one(rest, class) {
+    while let Some(behind) = behind_some(rest, class) {
         end = end_behind(rest, behind, end);
         rest = behind;
     }

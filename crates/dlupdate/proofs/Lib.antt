@@ -1,5 +1,7 @@
+pub mod AcceptingLaws
 pub mod CommandLaws
 pub mod CommittingLaws
+pub mod ExactRuns
 pub mod FollowingLaws
 pub mod OpeningLaws
 pub mod RunLaws

@@ -6,10 +6,10 @@ use Rattle.dlupdate.specs.Commands.{Command, Check, Apply, Script, Says}
 differ : (i a b : ℕ) (xs ys : List ℕ) → get_or xs i 0 ≡ a → get_or ys i 0 ≡ b → a ≢ b → xs ≡ ys → ⊥
 differ i a b xs ys h k n e = n (sym h ∙ ap (λ (zs : List ℕ). get_or zs i 0) e ∙ k)
 
-first_of : {A : Type 0} (a b : A) (xs ys : List A) → a ∷ xs ≡ b ∷ ys → a ≡ b
+pub first_of : {A : Type 0} (a b : A) (xs ys : List A) → a ∷ xs ≡ b ∷ ys → a ≡ b
 first_of a b xs ys e = cc
 
-tail_of : {A : Type 0} {a b : A} {xs ys : List A} → a ∷ xs ≡ b ∷ ys → xs ≡ ys
+pub tail_of : {A : Type 0} {a b : A} {xs ys : List A} → a ∷ xs ≡ b ∷ ys → xs ≡ ys
 tail_of e = ap (drop 1) e
 
 abbrev Words : Type 0
@@ -35,13 +35,13 @@ other_word word rest check apply script (Check o (Some f)) h = check (first_of w
 other_word word rest check apply script (Apply o us) h = apply (first_of word (codes "apply") rest (o ∷ us) h.0)
 other_word word rest check apply script (Script o f us) h = script (first_of word (codes "script") rest (o ∷ f ∷ us) h.0)
 
-check_apply : codes "check" ≢ codes "apply"
+pub check_apply : codes "check" ≢ codes "apply"
 check_apply = differ 0 99 97 (codes "check") (codes "apply") refl refl (λ e. omega (arith, e))
 
-check_script : codes "check" ≢ codes "script"
+pub check_script : codes "check" ≢ codes "script"
 check_script = differ 0 99 115 (codes "check") (codes "script") refl refl (λ e. omega (arith, e))
 
-apply_script : codes "apply" ≢ codes "script"
+pub apply_script : codes "apply" ≢ codes "script"
 apply_script = differ 0 97 115 (codes "apply") (codes "script") refl refl (λ e. omega (arith, e))
 
 -- a check has two names at most

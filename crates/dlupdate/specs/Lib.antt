@@ -1,3 +1,4 @@
+pub mod Accepting
 pub mod Commands
 pub mod Committing
 pub mod Following

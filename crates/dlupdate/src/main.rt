@@ -5,6 +5,7 @@ mod commands;
 mod committing;
 mod files;
 mod following;
+mod laws;
 mod offline;
 mod opening;
 mod reports;

@@ -1,5 +1,5 @@
 -- What loops over the terms gather.
-use Rattle.std.proofs.Common.{◌≡◌, List, [], ◌∷◌, ◌++◌, refl, sym, subst, inl, inr, ◌⊎◌, ⊎_elim, ℕ, ◌<◌, ◌+◌, length, arith}
+use Rattle.std.proofs.Common.{◌≡◌, ◌∙◌, Some, List, [], ◌∷◌, ◌++◌, refl, sym, ap, subst, inl, inr, ◌⊎◌, ⊎_elim, ℕ, ◌<◌, ◌+◌, length, arith}
 use Rattle.std.specs.Prelude.{◌↔◌, Contains}
 use Rattle.std.proofs.lemmas.Bool.{cases_lt}
 use Rattle.std.proofs.lemmas.List.Elements.{Contains-append_left, Contains-append_right, Contains-append_cases}
@@ -10,7 +10,9 @@ use Rattle.dl_base.specs.declared.statements.Fact.TheVariants as fact
 use Rattle.dl_base.specs.declared.names.Value.{Value}
 use Rattle.dl_base.specs.declared.terms.Term.{Term}
 use Rattle.dl_base.specs.Derivation.{InClosure}
-use Rattle.dl_base.specs.Ontologies.{Theory, Knows, IsKnown}
+use Rattle.dl_base.specs.declared.terms.Kind.{Kind}
+use Rattle.dl_base.specs.declared.terms.Kind.TheVariants as kind
+use Rattle.dl_base.specs.Ontologies.{Theory, Knows, IsKnown, IsTerm}
 use Rattle.dl_base.specs.Picks.{Collects}
 use Rattle.dl_base.proofs.KnownLaws.{closure_known}
 use Rattle.dl_base.proofs.Members.{here, alone}
@@ -128,20 +130,61 @@ module _ (axioms : List Axiom) where
       (λ g. ((λ z. ⊎_elim (λ i. (inl i.0, i.1)) (λ i. (inr i.0, i.1)) z), λ z. ⊎_elim (λ i. inl (i, z.1)) (λ i. inr (i, z.1)) z.0))
       (gains_both (One f x) (One f y) old mid new h k)
 
-  pub four_gains : (f x y z w : Fact) (old one two mid new : List Fact) → Gains (One f x) old one → Gains (One f y) one two → Gains (One f z) two mid → Gains (One f w) mid new
-      → Gains (λ g. ((g ≡ x) ⊎ ((g ≡ y) ⊎ ((g ≡ z) ⊎ (g ≡ w)))) × InClosure axioms (f ∷ []) g) old new
-  four_gains f x y z w old one two mid new h k l m = gains_as (λ g. One f x g ⊎ (One f y g ⊎ (One f z g ⊎ One f w g))) (λ g. ((g ≡ x) ⊎ ((g ≡ y) ⊎ ((g ≡ z) ⊎ (g ≡ w)))) × InClosure axioms (f ∷ []) g) old new
-      (λ g. (
-        (λ r. ⊎_elim (λ i. (inl i.0, i.1)) (λ s. ⊎_elim (λ i. (inr (inl i.0), i.1)) (λ t. ⊎_elim (λ i. (inr (inr (inl i.0)), i.1)) (λ i. (inr (inr (inr i.0)), i.1)) t) s) r),
-        λ r. ⊎_elim (λ i. inl (i, r.1)) (λ s. ⊎_elim (λ i. inr (inl (i, r.1))) (λ t. ⊎_elim (λ i. inr (inr (inl (i, r.1)))) (λ i. inr (inr (inr (i, r.1)))) t) s) r.0,
-      ))
-      (gains_both (One f x) (λ g. One f y g ⊎ (One f z g ⊎ One f w g)) old one new h
-      (gains_both (One f y) (λ g. One f z g ⊎ One f w g) one two new k
-      (gains_both (One f z) (One f w) two mid new l m)))
-
   -- all that follow are of a term in range
   pub collected : (n : ℕ) (f : Fact) (xs : List Fact) → Collects (FollowsAt axioms f) n xs → ((g : Fact) → InClosure axioms (f ∷ []) g → term_number g < n) → (g : Fact) → Contains xs g ↔ InClosure axioms (f ∷ []) g
   collected n f xs h within g = ((λ m. ((h g).0 m).2.1), λ k. (h g).1 (term_number g, within g k, (refl, k)))
 
 pub closure_number : (theory : Theory) (f : Fact) → IsKnown theory → Knows theory f → (g : Fact) → InClosure theory.axioms (f ∷ []) g → term_number g < length theory.terms
 closure_number theory f known knows g h = known_number theory g (closure_known theory known (f ∷ []) (λ x m. subst (Knows theory) (alone f x m) knows) g h)
+
+-- a term has one kind
+not_both : (theory : Theory) (s : Term) → IsTerm theory s kind.Class → IsTerm theory s kind.Role → ⊥
+not_both theory s (name, h) (other, k) =
+    let x : List ℕ × Kind = (name, kind.Class) in
+    let y : List ℕ × Kind = (other, kind.Role) in
+    let e : Some x ≡ Some y = sym h ∙ k in
+    let same : x ≡ y = cc in
+    let d : kind.Class ≡ kind.Role = ap (λ (p : List ℕ × Kind). p.1) same in
+    cc
+
+module _ (theory : Theory) (f : Fact) (s : Term) (a b : List ℕ) (known : IsKnown theory) (knows : Knows theory f) where
+  knows_too : (g h : Fact) → g ≡ h → InClosure theory.axioms (f ∷ []) g → Knows theory h
+  knows_too g h e c = subst (Knows theory) e (closure_known theory known (f ∷ []) (λ x m. subst (Knows theory) (alone f x m) knows) g c)
+
+  abbrev OfRole : Fact → Type 0
+  OfRole g = ((g ≡ fact.Class s a) ⊎ ((g ≡ fact.Class s b) ⊎ ((g ≡ fact.Role s a b) ⊎ (g ≡ fact.Role s b a)))) × InClosure theory.axioms (f ∷ []) g
+
+  -- of a role only role facts follow
+  pub gains_roles : (old mid new : List Fact) → IsTerm theory s kind.Role → Gains (λ g. (g ≡ fact.Role s a b) × InClosure theory.axioms (f ∷ []) g) old mid
+      → Gains (λ g. (g ≡ fact.Role s b a) × InClosure theory.axioms (f ∷ []) g) mid new → Gains OfRole old new
+  gains_roles old mid new role h k =
+      gains_as (λ g. ((g ≡ fact.Role s a b) ⊎ (g ≡ fact.Role s b a)) × InClosure theory.axioms (f ∷ []) g) OfRole old new
+      (λ g. (
+        (λ z. (inr (inr z.0), z.1)),
+        λ z. (
+          ⊎_elim
+              (λ (e : g ≡ fact.Class s a). absurd (not_both theory s (knows_too g (fact.Class s a) e z.1) role))
+              (λ r. ⊎_elim (λ (e : g ≡ fact.Class s b). absurd (not_both theory s (knows_too g (fact.Class s b) e z.1) role)) (λ q. q) r)
+              z.0,
+          z.1,
+        ),
+      ))
+      (two_gains theory.axioms f (fact.Role s a b) (fact.Role s b a) old mid new h k)
+
+  -- and of another term none
+  pub gains_classes : (old mid new : List Fact) → ¬ IsTerm theory s kind.Role → Gains (λ g. (g ≡ fact.Class s a) × InClosure theory.axioms (f ∷ []) g) old mid
+      → Gains (λ g. (g ≡ fact.Class s b) × InClosure theory.axioms (f ∷ []) g) mid new → Gains OfRole old new
+  gains_classes old mid new none h k =
+      gains_as (λ g. ((g ≡ fact.Class s a) ⊎ (g ≡ fact.Class s b)) × InClosure theory.axioms (f ∷ []) g) OfRole old new
+      (λ g. (
+        (λ z. (⊎_elim (λ e. inl e) (λ e. inr (inl e)) z.0, z.1)),
+        λ z. (
+          ⊎_elim
+              (λ e. inl e)
+              (λ r. ⊎_elim (λ e. inr e)
+              (λ q. ⊎_elim (λ (e : g ≡ fact.Role s a b). absurd (none (knows_too g (fact.Role s a b) e z.1))) (λ (e : g ≡ fact.Role s b a). absurd (none (knows_too g (fact.Role s b a) e z.1))) q) r)
+              z.0,
+          z.1,
+        ),
+      ))
+      (two_gains theory.axioms f (fact.Class s a) (fact.Class s b) old mid new h k)

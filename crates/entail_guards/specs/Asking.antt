@@ -1,5 +1,5 @@
 -- Which facts entail a fact that a pattern asks for, as patterns.
-use Rattle.std.specs.Prelude.{◌↔◌, ◌⊎◌, ℕ, ◌<◌, List, Contains}
+use Rattle.std.specs.Prelude.{◌↔◌, ◌⊎◌, ℕ, ◌<◌, ◌≤◌, ◌+◌, ◌*◌, List, Contains}
 use Rattle.dl_base.specs.declared.axioms.Axiom.{Axiom}
 use Rattle.dl_base.specs.declared.patterns.Pattern.{Pattern}
 use Rattle.dl_base.specs.declared.patterns.Pattern.TheVariants as asked
@@ -14,6 +14,7 @@ use Rattle.dl_base.specs.Clash.{RoleReaches, AttrReaches}
 use Rattle.dl_base.specs.Ontologies.{Theory, IsTerm}
 use Rattle.dl_base.specs.Patterns.{Matches}
 use Rattle.dl_base.specs.Reach.{ConceptReaches}
+use Rattle.conflict_rules.specs.Counts.{naming, one_if}
 use Rattle.entail_guards.specs.declared.asking.Way.{Way}
 use Rattle.entail_guards.specs.declared.asking.Way.TheVariants as way
 
@@ -111,3 +112,11 @@ OfTerm theory t p f =
 -- the patterns ask for the facts of the first n terms that entail what is asked for
 abbrev pub AsksBelow : Theory → Pattern → ℕ → List Pattern → Type 0
 AsksBelow theory p n patterns = (f : Fact) → IsAsked patterns f ↔ ((k : ℕ) × (k < n) × OfTerm theory (record { 0 = k }) p f)
+
+-- of the term m at most k patterns are more, of other terms none
+abbrev pub AddsOf : ℕ → ℕ → List Pattern → List Pattern → Type 0
+AddsOf m k old new = (n : ℕ) → naming n new ≤ naming n old + k * one_if m n
+
+-- of each term at most two patterns
+abbrev pub TwoEach : List Pattern → Type 0
+TwoEach patterns = (n : ℕ) → naming n patterns ≤ 2

@@ -3,7 +3,7 @@ ghost use Rattle.dl_base.specs.Ontologies.{Knows};
 ghost use Rattle.dl_base.specs.declared.statements.Fact as fact_type;
 ghost use Rattle.dl_base.specs.declared.terms.Basic.TheVariants as basic;
 ghost use Rattle.entail_guards.specs.Asking as asking;
-ghost use Rattle.entail_guards.specs.Asking.{IsAsked, AsksMore, AsksBelow, OfTerm, Finds, Leads, ClassLeads, RoleLeads, AttrLeads};
+ghost use Rattle.entail_guards.specs.Asking.{IsAsked, AddsOf, TwoEach, AsksMore, AsksBelow, OfTerm, Finds, Leads, ClassLeads, RoleLeads, AttrLeads};
 ghost use Rattle.entail_guards.specs.Matching.{EntailsMatch};
 
 use crate::entailers::Entailers;
@@ -25,6 +25,7 @@ impl Entailers {
         ensures sound { IfOk result (λ patterns. (f : fact_type.Fact) → IsAsked patterns.items f → EntailsMatch self.now.axioms f pattern.now) }
         ensures complete { IfOk result (λ patterns. (f : fact_type.Fact) → Knows self.now f → EntailsMatch self.now.axioms f pattern.now → IsAsked patterns.items f) }
         ensures few { IfOk result (λ patterns. length patterns.items ≤ 2 * length self.now.terms) }
+        ensures each { IfOk result (λ patterns. TwoEach patterns.items) }
     {
         let patterns = self.of_all_terms(alloc, pattern)?;
         Ok(patterns)
@@ -33,6 +34,7 @@ impl Entailers {
     fn of_all_terms(&self, alloc: Global, pattern: &Pattern) -> Result<Vec<Pattern>, OutOfMemory>
         ensures asks { IfOk result (λ patterns. AsksBelow self.now pattern.now (length self.now.terms) patterns.items) }
         ensures few { IfOk result (λ patterns. length patterns.items ≤ 2 * length self.now.terms) }
+        ensures each { IfOk result (λ patterns. TwoEach patterns.items) }
     {
         let mut patterns = Vec::new(alloc);
         for number in 0..self.terms() {
@@ -50,6 +52,7 @@ impl Entailers {
     ) -> Result<(), OutOfMemory>
         ensures asks { OnOk result (AsksMore (OfTerm self.now term pattern.now) patterns.old.items patterns.new.items) }
         ensures few { OnOk result (length patterns.new.items ≤ length patterns.old.items + 2) }
+        ensures each { OnOk result (AddsOf term.0 2 patterns.old.items patterns.new.items) }
     {
         if self.is_role(term) {
             self.add_by(alloc, Way::Direct, term, pattern, patterns)?;
@@ -72,6 +75,7 @@ impl Entailers {
     ) -> Result<(), OutOfMemory>
         ensures asks { OnOk result (AsksMore (Finds self.now.axioms by term pattern.now) patterns.old.items patterns.new.items) }
         ensures few { OnOk result (length patterns.new.items ≤ length patterns.old.items + 1) }
+        ensures each { OnOk result (AddsOf term.0 1 patterns.old.items patterns.new.items) }
     {
         if !self.leads(by, term, pattern) {
             return Ok(());

@@ -1,10 +1,9 @@
-ghost use Rattle.std.specs.Prelude.{◌≡◌, ◌≤◌, ◌∷◌, [], IfOk, OnOk, length};
+ghost use Rattle.std.specs.Prelude.{◌≡◌, ◌≤◌, ◌+◌, ◌*◌, ◌⊎◌, ◌∷◌, [], IfOk, OnOk, length};
 ghost use Rattle.dl_base.specs.Derivation.{InClosure};
 ghost use Rattle.dl_base.specs.Ontologies.{Knows, IsKnown};
 ghost use Rattle.dl_base.specs.Picks.{Collects};
 ghost use Rattle.dl_base.specs.Updates.{Lists};
 ghost use Rattle.dl_base.specs.declared.statements.Fact.TheVariants as fact;
-ghost use Rattle.std.specs.Prelude.{◌⊎◌};
 ghost use Rattle.entail_guards.specs.Following.{FollowsAt, Gains};
 
 use crate::entailers::Entailers;
@@ -12,18 +11,21 @@ use dl_base::{Fact, Name, OutOfMemory, Term, Value, sorted_once};
 use std::alloc::Global;
 
 impl Entailers {
-    /// The closure of the fact, in order.
+    /// The closure of the fact, in order: at most two facts for each term.
     pub fn follows(&self, alloc: Global, given: &Fact) -> Result<Vec<Fact>, OutOfMemory>
         requires { Knows self.now given.now }
-        ensures { IfOk result (λ facts. Lists (InClosure self.now.axioms (given.now ∷ [])) facts.items) }
+        ensures ok { IfOk result (λ facts. Lists (InClosure self.now.axioms (given.now ∷ [])) facts.items) }
+        ensures few { IfOk result (λ facts. length facts.items ≤ 2 * length self.now.terms) }
     {
         let facts = self.gather(alloc, given)?;
         Ok(sorted_once(facts)?)
     }
 
     fn gather(&self, alloc: Global, given: &Fact) -> Result<Vec<Fact>, OutOfMemory>
+        requires { Knows self.now given.now }
         ensures found { IfOk result (λ facts. Collects (FollowsAt self.now.axioms given.now) (length self.now.terms) facts.items) }
         ensures known { IfOk result (λ facts. IsKnown self.now) }
+        ensures few { IfOk result (λ facts. length facts.items ≤ 2 * length self.now.terms) }
     {
         let mut facts = Vec::new(alloc);
         for number in 0..self.terms() {
@@ -40,7 +42,10 @@ impl Entailers {
         term: Term,
         facts: &mut Vec<Fact>,
     ) -> Result<(), OutOfMemory>
-        ensures { OnOk result (Gains (FollowsAt self.now.axioms given.now term.0) facts.old.items facts.new.items) }
+        requires known { IsKnown self.now }
+        requires given { Knows self.now given.now }
+        ensures gains { OnOk result (Gains (FollowsAt self.now.axioms given.now term.0) facts.old.items facts.new.items) }
+        ensures few { OnOk result (length facts.new.items ≤ length facts.old.items + 2) }
     {
         match given {
             Fact::Class(_, a) => {
@@ -67,12 +72,18 @@ impl Entailers {
         to: &Name,
         facts: &mut Vec<Fact>,
     ) -> Result<(), OutOfMemory>
-        ensures { OnOk result (Gains (λ g. ((g ≡ fact.Class term from.now) ⊎ ((g ≡ fact.Class term to.now) ⊎ ((g ≡ fact.Role term from.now to.now) ⊎ (g ≡ fact.Role term to.now from.now)))) × InClosure self.now.axioms (given.now ∷ []) g) facts.old.items facts.new.items) }
+        requires known { IsKnown self.now }
+        requires given { Knows self.now given.now }
+        ensures gains { OnOk result (Gains (λ g. ((g ≡ fact.Class term from.now) ⊎ ((g ≡ fact.Class term to.now) ⊎ ((g ≡ fact.Role term from.now to.now) ⊎ (g ≡ fact.Role term to.now from.now)))) × InClosure self.now.axioms (given.now ∷ []) g) facts.old.items facts.new.items) }
+        ensures few { OnOk result (length facts.new.items ≤ length facts.old.items + 2) }
     {
+        if self.is_role(term) {
+            self.add_role(alloc, given, term, from, to, facts)?;
+            self.add_role(alloc, given, term, to, from, facts)?;
+            return Ok(());
+        }
         self.add_class(alloc, given, term, from, facts)?;
         self.add_class(alloc, given, term, to, facts)?;
-        self.add_role(alloc, given, term, from, to, facts)?;
-        self.add_role(alloc, given, term, to, from, facts)?;
         Ok(())
     }
 
@@ -85,7 +96,8 @@ impl Entailers {
         value: &Value,
         facts: &mut Vec<Fact>,
     ) -> Result<(), OutOfMemory>
-        ensures { OnOk result (Gains (λ g. ((g ≡ fact.Class term from.now) ⊎ (g ≡ fact.Attr term from.now value.now)) × InClosure self.now.axioms (given.now ∷ []) g) facts.old.items facts.new.items) }
+        ensures gains { OnOk result (Gains (λ g. ((g ≡ fact.Class term from.now) ⊎ (g ≡ fact.Attr term from.now value.now)) × InClosure self.now.axioms (given.now ∷ []) g) facts.old.items facts.new.items) }
+        ensures few { OnOk result (length facts.new.items ≤ length facts.old.items + 2) }
     {
         self.add_class(alloc, given, term, from, facts)?;
         self.add_attr(alloc, given, term, from, value, facts)?;
@@ -100,7 +112,8 @@ impl Entailers {
         name: &Name,
         facts: &mut Vec<Fact>,
     ) -> Result<(), OutOfMemory>
-        ensures { OnOk result (Gains (λ g. (g ≡ fact.Class term name.now) × InClosure self.now.axioms (given.now ∷ []) g) facts.old.items facts.new.items) }
+        ensures gains { OnOk result (Gains (λ g. (g ≡ fact.Class term name.now) × InClosure self.now.axioms (given.now ∷ []) g) facts.old.items facts.new.items) }
+        ensures few { OnOk result (length facts.new.items ≤ length facts.old.items + 1) }
     {
         let follower = Fact::Class(term, name.copy(alloc)?);
         self.add(given, follower, facts)?;
@@ -116,7 +129,8 @@ impl Entailers {
         to: &Name,
         facts: &mut Vec<Fact>,
     ) -> Result<(), OutOfMemory>
-        ensures { OnOk result (Gains (λ g. (g ≡ fact.Role term from.now to.now) × InClosure self.now.axioms (given.now ∷ []) g) facts.old.items facts.new.items) }
+        ensures gains { OnOk result (Gains (λ g. (g ≡ fact.Role term from.now to.now) × InClosure self.now.axioms (given.now ∷ []) g) facts.old.items facts.new.items) }
+        ensures few { OnOk result (length facts.new.items ≤ length facts.old.items + 1) }
     {
         let follower = Fact::Role(term, from.copy(alloc)?, to.copy(alloc)?);
         self.add(given, follower, facts)?;
@@ -132,7 +146,8 @@ impl Entailers {
         value: &Value,
         facts: &mut Vec<Fact>,
     ) -> Result<(), OutOfMemory>
-        ensures { OnOk result (Gains (λ g. (g ≡ fact.Attr term from.now value.now) × InClosure self.now.axioms (given.now ∷ []) g) facts.old.items facts.new.items) }
+        ensures gains { OnOk result (Gains (λ g. (g ≡ fact.Attr term from.now value.now) × InClosure self.now.axioms (given.now ∷ []) g) facts.old.items facts.new.items) }
+        ensures few { OnOk result (length facts.new.items ≤ length facts.old.items + 1) }
     {
         let follower = Fact::Attr(term, from.copy(alloc)?, value.copy(alloc)?);
         self.add(given, follower, facts)?;
@@ -141,7 +156,8 @@ impl Entailers {
 
     /// Adds the fact if the given one entails it.
     fn add(&self, given: &Fact, follower: Fact, facts: &mut Vec<Fact>) -> Result<(), OutOfMemory>
-        ensures { OnOk result (Gains (λ g. (g ≡ follower) × InClosure self.now.axioms (given.now ∷ []) g) facts.old.items facts.new.items) }
+        ensures gains { OnOk result (Gains (λ g. (g ≡ follower) × InClosure self.now.axioms (given.now ∷ []) g) facts.old.items facts.new.items) }
+        ensures few { OnOk result (length facts.new.items ≤ length facts.old.items + 1) }
     {
         if !self.entails(given, &follower) {
             return Ok(());

@@ -13,6 +13,7 @@ use Rattle.loading.specs.declared.refusals.LoadRefusal.{LoadRefusal}
 use Rattle.loading.specs.declared.refusals.LoadRefusal.TheVariants as refusal
 use Rattle.ntriples.specs.Files.{Reads}
 use Rattle.ntriples.specs.declared.files.ReadFacts.{ReadFacts}
+use Rattle.owl_read.specs.Documents.{Reads as ReadsOntology}
 
 -- the facts are open under the ontology: they are consistent, and so many triples were skipped
 pub record IsOpened (theory : Theory) (facts : List Fact) (skipped : ℕ) (it : Opened) : Type 0 where
@@ -48,3 +49,17 @@ Loads theory given before bytes (Err (refusal.Ontology r)) = ⊥
 Loads theory given before bytes (Err (refusal.Alone f)) = (all : List Fact) × (skipped : ℕ) × Gathers theory given before bytes all skipped × Contradicts theory.axioms all (refusal.Alone f)
 Loads theory given before bytes (Err (refusal.Pair f g)) = (all : List Fact) × (skipped : ℕ) × Gathers theory given before bytes all skipped × Contradicts theory.axioms all (refusal.Pair f g)
 Loads theory given before bytes (Err refusal.OutOfMemory) = Unit {0}
+
+-- the ontology's text gives assertions, and opening them with the file answers this
+abbrev pub LoadsFrom : List ℕ → List ℕ → Result Opened LoadRefusal → Type 0
+LoadsFrom ontology bytes answer = (theory : Theory) × (given : List Fact) × (before : ℕ) × ReadsOntology ontology (Ok (theory, given, before)) × Loads theory given before bytes answer
+
+-- what opening an ontology's text with a file of facts answers: the ontology is refused, or what both give is opened
+abbrev pub LoadsBoth : List ℕ → List ℕ → Result Opened LoadRefusal → Type 0
+LoadsBoth ontology bytes (Ok it) = LoadsFrom ontology bytes (Ok it)
+LoadsBoth ontology bytes (Err (refusal.Ontology (Refused line kind))) = ReadsOntology ontology (Err (Refused line kind))
+LoadsBoth ontology bytes (Err (refusal.Ontology OutOfMemory)) = ⊥
+LoadsBoth ontology bytes (Err (refusal.Facts r)) = LoadsFrom ontology bytes (Err (refusal.Facts r))
+LoadsBoth ontology bytes (Err (refusal.Alone f)) = LoadsFrom ontology bytes (Err (refusal.Alone f))
+LoadsBoth ontology bytes (Err (refusal.Pair f g)) = LoadsFrom ontology bytes (Err (refusal.Pair f g))
+LoadsBoth ontology bytes (Err refusal.OutOfMemory) = Unit {0}

@@ -5,6 +5,8 @@ mod opening;
 mod refusals;
 #[cfg(test)]
 mod tests;
+mod whole;
 
 pub use opening::{Opened, load_over, open};
 pub use refusals::LoadRefusal;
+pub use whole::load;

@@ -1,5 +1,6 @@
 mod opening;
 mod texts;
+mod whole;
 
 use dl_base::{Axiom, Basic, Kind, Name, Ontology, RoleSide, Term};
 use std::alloc::Global;

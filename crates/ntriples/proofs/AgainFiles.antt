@@ -13,7 +13,7 @@ use Rattle.dl_base.specs.declared.statements.Fact.TheVariants as fact
 use Rattle.dl_base.specs.Ontologies.{Theory, AreNamedOnce}
 use Rattle.dl_base.specs.Repeats.{IsOnce}
 use Rattle.dl_text.specs.Going.{Goes, stop, go}
-use Rattle.text_cuts.specs.Cuts.{IsTag}
+use Rattle.dl_runs.specs.Classes.{IsTag}
 use Rattle.triples.specs.declared.meaning.Said.{Said}
 use Rattle.triples.specs.declared.meaning.Said.TheVariants as saids
 use Rattle.ntriples.specs.Files.{LineStep, facts_of, all_skips, Reads}

@@ -13,8 +13,8 @@ use Rattle.dl_text.specs.Iris.{IsIri, is_iri_byte}
 use Rattle.dl_text.specs.Printing.{written, written_byte}
 use Rattle.dl_text.proofs.IriCharacters.{IsHigh, high}
 use Rattle.dl_text.proofs.PrintingLaws.{IsWritten, one_byte}
-use Rattle.text_cuts.specs.Cuts.{IsTag}
-use Rattle.text_cuts.proofs.TagEnds.{IsPast, tag_past}
+use Rattle.dl_runs.specs.Classes.{IsTag}
+use Rattle.dl_runs.proofs.TagEnds.{IsPast, tag_past}
 use Rattle.ntriples.specs.declared.grammar.Object.{Object}
 use Rattle.ntriples.specs.declared.grammar.Object.TheVariants as objects
 use Rattle.ntriples.specs.declared.grammar.Triple.{Triple}

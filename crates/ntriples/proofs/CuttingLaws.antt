@@ -2,7 +2,8 @@
 use Rattle.std.proofs.Common.{◌≡◌, ◌≢◌, ℕ, List, [], ◌∷◌, ◌++◌, subst, arith, inl, inr, refl}
 use Rattle.std.specs.Prelude.{All}
 use Rattle.std.proofs.lemmas.List.Elements.{All-head, All-tail}
-use Rattle.text_cuts.specs.Cuts.{IsLabel, IsLongest, IsQuoted, IsTag}
+use Rattle.dl_runs.specs.Classes.{IsLabel, IsLongest, IsTag}
+use Rattle.dl_runs.specs.Quotes.{IsQuoted}
 use Rattle.ntriples.specs.Cutting.{Shape, Gap, Dot, Hats, IriOf, TextOf, TagOf, NodeOf, CutsAt, Cuts}
 
 pub not_gap : (b : ℕ) (bs rest : List ℕ) → b ≢ 32 → b ≢ 9 → b ≢ 35 → ¬ CutsAt b bs Gap rest

@@ -11,9 +11,9 @@ use Rattle.dl_text.specs.declared.kinds.ReadKind.{ReadKind}
 use Rattle.dl_text.specs.Kinds.{kind_of}
 use Rattle.dl_text.proofs.GoingLaws.{goes_one}
 use Rattle.dl_text.proofs.ReadingLaws.{iri_one, string_one}
-use Rattle.text_cuts.specs.Cuts.{IsLongest, IsTag, IsLabel}
-use Rattle.text_cuts.proofs.RunLaws.{tail_is}
-use Rattle.text_cuts.proofs.CutLaws.{longest_one, quoted_one}
+use Rattle.dl_runs.specs.Classes.{IsLongest, IsTag, IsLabel}
+use Rattle.dl_runs.proofs.NameLaws.{tail_is}
+use Rattle.dl_runs.proofs.ExactLaws.{longest_one, quoted_one}
 use Rattle.ntriples.specs.declared.tokens.Token.{Token}
 use Rattle.ntriples.specs.declared.tokens.Token.TheVariants as tokens
 use Rattle.ntriples.specs.Cutting.{Shape, Gap, Dot, Hats, IriOf, TextOf, TagOf, NodeOf, CutsAt, Cuts}

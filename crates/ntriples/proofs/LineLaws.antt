@@ -14,7 +14,7 @@ use Rattle.ntriples.specs.Tokens.{Gives, Stands, Lexes}
 use Rattle.ntriples.specs.Grammar.{Fits}
 use Rattle.ntriples.specs.Lines.{Parses}
 use Rattle.ntriples.specs.Steps.{IsStep}
-use Rattle.text_cuts.proofs.TextLaws.{text_is}
+use Rattle.dl_runs.proofs.TextLaws.{text_is}
 
 pub flat-append : (ps qs : List (List Token)) → flat_map (λ (piece : List Token). piece) (ps ++ qs) ≡ flat_map (λ (piece : List Token). piece) ps ++ flat_map (λ (piece : List Token). piece) qs
 flat-append [] qs = refl

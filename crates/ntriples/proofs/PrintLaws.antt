@@ -11,8 +11,9 @@ use Rattle.dl_text.specs.Printing.{written, written_byte}
 use Rattle.dl_text.proofs.GoingLaws.{goes_append}
 use Rattle.dl_text.proofs.ReadingLaws.{iri_undoes}
 use Rattle.dl_text.proofs.PrintingLaws.{written_undoes, IsWritten, one_byte}
-use Rattle.text_cuts.specs.Cuts.{InText, single, pair, IsTag}
-use Rattle.text_cuts.proofs.TagEnds.{tag_ends}
+use Rattle.dl_runs.specs.Classes.{IsTag}
+use Rattle.dl_runs.specs.Quotes.{InText, single, pair}
+use Rattle.dl_runs.proofs.TagEnds.{tag_ends}
 use Rattle.ntriples.specs.declared.tokens.Token.{Token}
 use Rattle.ntriples.specs.declared.tokens.Token.TheVariants as tokens
 use Rattle.ntriples.specs.declared.grammar.Object.{Object}

@@ -1,6 +1,7 @@
 -- How a line is cut into pieces.
 use Rattle.std.specs.Prelude.{◌≡◌, ◌≢◌, ◌⊎◌, ℕ, List, [], ◌∷◌, ◌++◌, All}
-use Rattle.text_cuts.specs.Cuts.{IsLabel, IsLongest, IsQuoted, IsTag}
+use Rattle.dl_runs.specs.Classes.{IsLabel, IsLongest, IsTag}
+use Rattle.dl_runs.specs.Quotes.{IsQuoted}
 use Rattle.ntriples.specs.declared.pieces.Piece.{Piece}
 use Rattle.ntriples.specs.declared.pieces.Piece.TheVariants as pieces
 

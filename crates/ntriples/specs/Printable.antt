@@ -8,7 +8,7 @@ use Rattle.dl_base.specs.Ontologies.{Theory, Knows}
 use Rattle.dl_text.specs.Iris.{IsIri}
 use Rattle.dl_text.specs.Literals.{IsValueOf}
 use Rattle.dl_text.specs.Outcomes.{longest_iri, longest_text}
-use Rattle.text_cuts.specs.Cuts.{IsTag}
+use Rattle.dl_runs.specs.Classes.{IsTag}
 use Rattle.triples.specs.declared.meaning.Object.{Object}
 use Rattle.triples.specs.declared.meaning.Object.TheVariants as objects
 use Rattle.triples.specs.Meaning.{is_skipped}

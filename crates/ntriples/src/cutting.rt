@@ -1,10 +1,10 @@
 ghost use Rattle.std.specs.Prelude.{◌≡◌, ◌≢◌, ℕ, List, ◌∷◌, MatchOption};
-ghost use Rattle.text_cuts.specs.Cuts.{IsLabel, IsLongest};
+ghost use Rattle.dl_runs.specs.Classes.{IsLabel, IsLongest};
 ghost use Rattle.ntriples.specs.Cutting.{Shape, shape_of, Cuts};
 
 use crate::pieces::Piece;
+use dl_runs::{cut_label, cut_tag, cut_text};
 use dl_text::cut_at;
-use text_cuts::{cut_label, cut_tag, cut_text};
 
 /// The label behind the `_` of a blank node, and what stands behind it.
 fn cut_node(behind: &[u8]) -> Option<(&[u8], &[u8])>

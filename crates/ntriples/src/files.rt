@@ -6,9 +6,9 @@ ghost use Rattle.ntriples.specs.Gathering.{IsKept};
 use crate::gathering::Gathered;
 use crate::meaning::line_says;
 use dl_base::{Facts, Ontology, OutOfMemory};
+use dl_runs::cut_at_either;
 use dl_text::{NamePool, ReadKind, ReadRefusal, line_at, utf8_fault};
 use std::alloc::Global;
-use text_cuts::cut_at_either;
 use triples::Said;
 
 /// The facts of a file in its order, repeats dropped, and how many triples it skips.

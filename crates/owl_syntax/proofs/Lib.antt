@@ -1,9 +1,5 @@
 pub mod TreeLaws
-pub mod CharLaws
-pub mod DotLaws
-pub mod TextLaws
 pub mod NameLaws
-pub mod TagLaws
 pub mod PieceLaws
 pub mod QuoteLaws
 pub mod ParseLaws

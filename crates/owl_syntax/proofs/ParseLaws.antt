@@ -21,7 +21,8 @@ use Rattle.owl_syntax.specs.Tokens.{IsSound, HasFault, line_of, tokens_at, Stand
 use Rattle.owl_syntax.specs.Trees.{Content}
 use Rattle.owl_syntax.specs.Outcomes.{IsNoText, HasBadToken, ParsesText, Parses}
 use Rattle.owl_syntax.specs.Reading.{Fits, IsStepped, IsFinished}
-use Rattle.owl_syntax.proofs.TextLaws.{text_is}
+use Rattle.dl_runs.specs.Classes.{IsBlank}
+use Rattle.dl_runs.proofs.TextLaws.{text_is}
 
 -- a piece has a front of the text, which is not empty
 pub record HasFront (here rest : List ℕ) : Type 0 where
@@ -123,6 +124,16 @@ parsed_more bytes progress next line here shape rest p c s step =
       is = p.is ∙ ap (λ (z : List ℕ). p.before ++ z) h.is ∙ sym (append_assoc p.before h.front rest);
       line_is = omega (arith, p.line_is, ends, ap (count_by is_end) cut);
     }
+
+-- a blank gives no token
+pub parsed_blank : (bytes : List ℕ) (progress : Progress) (line : ℕ) (here rest : List ℕ) (b : ℕ) → IsParsedTo bytes progress line here → here ≡ b ∷ rest → IsBlank b
+    → IsParsedTo bytes progress (line + count_by is_end (b ∷ [])) rest
+parsed_blank bytes progress line here rest b p e k =
+    let n : 1 ≡ length here - length rest = omega (arith, ap length e) in
+    let cut : take (length here - length rest) here ≡ b ∷ [] = ap (take (length here - length rest)) e ∙ take_at (b ∷ []) rest (length here - length rest) n in
+    subst (λ (k : ℕ). IsParsedTo bytes progress (line + k) rest) (ap (count_by is_end) cut)
+    (parsed_more bytes progress progress line here Gap rest p (subst (λ (z : List ℕ). Cuts z Gap rest) (sym e) (inl (k, refl))) tt
+    (λ (tokens : List Token) f. subst (Fits progress) (sym (append-nil tokens)) f))
 
 pub no_token : (bytes : List ℕ) (progress : Progress) (line : ℕ) (here : List ℕ) → IsParsedTo bytes progress line here → here ≢ [] → ((shape : Shape) (rest : List ℕ) → ¬ Cuts here shape rest)
     → HasBadToken bytes line Syntax

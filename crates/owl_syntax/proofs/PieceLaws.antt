@@ -6,12 +6,15 @@ use Rattle.std.specs.Str.{encode_utf8_all}
 use Rattle.std.proofs.lemmas.Bool.{false≢true}
 use Rattle.std.proofs.lemmas.List.Elements.{All-head, All-tail}
 use Rattle.std.proofs.lemmas.Str.{encode_same, encode_ascii}
-use Rattle.owl_syntax.specs.declared.runs.Class.{Class}
-use Rattle.owl_syntax.specs.declared.runs.Class.TheVariants as classes
-use Rattle.owl_syntax.specs.Cutting.{is_of, IsOf, IsSome, IsLongest, IsBlank, IsTag, IsQuoted, IsPrefix, IsPrefixed, CutsAt, Cuts}
-use Rattle.owl_syntax.specs.Runs.{IsRun, CutsName}
+use Rattle.dl_runs.specs.declared.runs.Class.{Class}
+use Rattle.dl_runs.specs.declared.runs.Class.TheVariants as classes
+use Rattle.dl_runs.specs.Classes.{is_of, IsOf, IsSome, IsLongest, IsBlank, IsTag, IsPrefix}
+use Rattle.dl_runs.specs.Quotes.{IsQuoted}
+use Rattle.dl_runs.specs.Runs.{IsRun}
+use Rattle.dl_runs.proofs.NameLaws.{some_longest}
+use Rattle.owl_syntax.specs.Cutting.{IsPrefixed, CutsAt, Cuts}
+use Rattle.owl_syntax.specs.NameCuts.{CutsName}
 use Rattle.owl_syntax.specs.Shapes.{Shape, Gap, Open, Close, Equals, Hats, Tag, Word, Iri, Prefixed, Blank, Digits, Text}
-use Rattle.owl_syntax.proofs.NameLaws.{some_longest}
 
 -- an ASCII byte is a character
 pub ascii_first : (b : ℕ) (bs rest : List ℕ) (c : ℕ) → b < 128 → b ∷ bs ≡ encode_utf8 c ++ rest → b ≡ c

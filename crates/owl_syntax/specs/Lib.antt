@@ -1,6 +1,6 @@
 pub mod Shapes
 pub mod Cutting
-pub mod Runs
+pub mod NameCuts
 pub mod Tokens
 pub mod Trees
 pub mod Grammar

@@ -13,6 +13,9 @@ use crate::states::{Head, Nest, Opened, Pending};
 use dl_base::OutOfMemory;
 use std::alloc::Global;
 
+/// How many arguments most words have.
+const USUAL_ARGS: usize = 2;
+
 /// What a token makes of the nodes inside a document.
 #[derive(Debug, Drop)]
 pub enum Stepped<'b> {
@@ -135,7 +138,7 @@ impl<'b> Nest<'b> {
             before: since,
             head,
         })?;
-        let since = Vec::new(alloc);
+        let since = Vec::with_capacity(alloc, USUAL_ARGS)?;
         Ok(Stepped::On(Nest { rank, outer, since }, Pending::Nothing))
     }
 

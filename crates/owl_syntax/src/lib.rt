@@ -9,7 +9,6 @@ mod nodes;
 mod parsing;
 mod pieces;
 mod prefixes;
-mod runs;
 mod states;
 #[cfg(test)]
 mod tests;

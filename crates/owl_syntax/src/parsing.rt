@@ -1,4 +1,4 @@
-ghost use Rattle.std.specs.Prelude.{◌≡◌, ◌==◌, count_by, List};
+ghost use Rattle.std.specs.Prelude.{◌≡◌, ◌==◌, ◌+◌, ◌<◌, ◌^◌, ◌∷◌, [], count_by, List};
 ghost use Rattle.dl_text.specs.Outcomes.{seen};
 ghost use Rattle.owl_syntax.specs.Shapes.{Token, at, shape_of};
 ghost use Rattle.owl_syntax.specs.Trees.{content_of};
@@ -15,6 +15,7 @@ use crate::prefixes::Prefixes;
 use crate::states::State;
 use crate::texts::fault_of;
 use dl_base::OutOfMemory;
+use dl_runs::is_blank;
 use dl_text::{ReadKind, ReadRefusal, line_at, utf8_fault};
 use std::alloc::Global;
 
@@ -93,6 +94,14 @@ fn line_ends(bytes: &[u8]) -> u64
     bytes.iter().filter(|b| **b == b'\n').count() as u64
 }
 
+/// The line behind a byte of a line.
+fn line_after(line: u64, byte: u8) -> u64
+    requires { line < 2 ^ 63 }
+    ensures { result ≡ line + count_by (λ b. b == 10) (byte ∷ []) }
+{
+    if byte == b'\n' { line + 1 } else { line }
+}
+
 /// The document at the end of a state's tokens.
 fn ended<'b>(state: State<'b>, end: u64) -> Result<Document<'b>, ReadRefusal>
     ensures { (tokens : List Token) → IsRead state.entry tokens → IsFinished tokens end (seen content_of result) }
@@ -141,7 +150,12 @@ fn read(alloc: Global, bytes: &[u8]) -> Result<Document<'_>, ReadRefusal>
     let mut progress = Progress::Going(State::Lines(Prefixes::new(alloc)));
     let mut line = 1;
     let mut rest = bytes;
-    while !rest.is_empty() {
+    while let Some((first, after)) = rest.split_first() {
+        if is_blank(*first) {
+            line = line_after(line, *first);
+            rest = after;
+            continue;
+        }
         let Some((piece, behind)) = cut(rest) else {
             return Err(ReadRefusal::Refused {
                 line,

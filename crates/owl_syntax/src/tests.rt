@@ -7,8 +7,7 @@ use std::test::Fail;
 fn show(alloc: Global, node: &Node<'_>, out: &mut Vec<u8>) -> Result<(), Fail> {
     match node {
         Node::Word { line, text, args } => {
-            out.extend_from_slice(text)?;
-            mark(alloc, *line, out)?;
+            show_text(alloc, *line, [*text, b"", b""], out)?;
             out.push(b'(')?;
             for arg in args {
                 show(alloc, arg, out)?;
@@ -23,41 +22,21 @@ fn show(alloc: Global, node: &Node<'_>, out: &mut Vec<u8>) -> Result<(), Fail> {
             }
             out.push(b')')?;
         }
-        Node::Iri { line, text } => {
-            out.push(b'<')?;
-            out.extend_from_slice(text)?;
-            out.push(b'>')?;
-            mark(alloc, *line, out)?;
-        }
+        Node::Iri { line, text } => show_text(alloc, *line, [b"<", *text, b">"], out)?,
         Node::Prefixed {
             line,
             prefix,
             local,
-        } => {
-            out.extend_from_slice(prefix)?;
-            out.push(b':')?;
-            out.extend_from_slice(local)?;
-            mark(alloc, *line, out)?;
-        }
-        Node::Blank { line, label } => {
-            out.extend_from_slice(b"_:")?;
-            out.extend_from_slice(label)?;
-            mark(alloc, *line, out)?;
-        }
-        Node::Digits { line, text } => {
-            out.extend_from_slice(text)?;
-            mark(alloc, *line, out)?;
-        }
+        } => show_text(alloc, *line, [*prefix, b":", *local], out)?,
+        Node::Blank { line, label } => show_text(alloc, *line, [b"_:", *label, b""], out)?,
+        Node::Digits { line, text } => show_text(alloc, *line, [*text, b"", b""], out)?,
         Node::Literal {
             line,
             text,
             tag,
             datatype,
         } => {
-            out.push(b'"')?;
-            out.extend_from_slice(text)?;
-            out.push(b'"')?;
-            mark(alloc, *line, out)?;
+            show_text(alloc, *line, [b"\"", *text, b"\""], out)?;
             if !tag.is_empty() {
                 out.push(b'@')?;
                 out.extend_from_slice(tag)?;
@@ -69,6 +48,14 @@ fn show(alloc: Global, node: &Node<'_>, out: &mut Vec<u8>) -> Result<(), Fail> {
         }
     }
     Ok(())
+}
+
+/// Writes the texts, and then the line.
+fn show_text(alloc: Global, line: u64, texts: [&[u8]; 3], out: &mut Vec<u8>) -> Result<(), Fail> {
+    for text in texts {
+        out.extend_from_slice(text)?;
+    }
+    mark(alloc, line, out)
 }
 
 fn mark(alloc: Global, line: u64, out: &mut Vec<u8>) -> Result<(), Fail> {

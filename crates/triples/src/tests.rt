@@ -41,65 +41,68 @@ fn told(alloc: Global, answer: Result<Said, TripleFault>) -> Result<String, Fail
 
 const TYPE: &str = "http://www.w3.org/1999/02/22-rdf-syntax-ns#type";
 
+/// Predicates, objects as they are written, and what the triple says.
+const TRIPLES: [(&str, &str, &str); 21] = [
+    (TYPE, "http://u.example/Prof", "class 0"),
+    (TYPE, "http://u.example/Dean", "UnknownTerm"),
+    (TYPE, "http://u.example/teaches", "WrongKind"),
+    (TYPE, "http://u.example/note", "WrongKind"),
+    (TYPE, "\"Prof", "WrongKind"),
+    (TYPE, "http://www.w3.org/2002/07/owl#Thing", "skipped"),
+    (
+        TYPE,
+        "http://www.w3.org/2002/07/owl#NamedIndividual",
+        "skipped",
+    ),
+    (TYPE, "http://www.w3.org/2002/07/owl#Nothing", "UnknownTerm"),
+    (
+        "http://u.example/teaches",
+        "http://u.example/Prof",
+        "role 1",
+    ),
+    ("http://u.example/teaches", "\"logic", "WrongKind"),
+    ("http://u.example/badge", "\"7", "attr 2"),
+    ("http://u.example/badge", "http://u.example/b7", "WrongKind"),
+    ("http://u.example/Prof", "http://u.example/b7", "WrongKind"),
+    (
+        "http://u.example/knows",
+        "http://u.example/b7",
+        "UnknownTerm",
+    ),
+    ("http://u.example/note", "http://u.example/b7", "skipped"),
+    ("http://u.example/note", "\"old", "skipped"),
+    (
+        "http://www.w3.org/2000/01/rdf-schema#label",
+        "\"Ann",
+        "skipped",
+    ),
+    (
+        "http://www.w3.org/2000/01/rdf-schema#comment",
+        "\"Ann",
+        "skipped",
+    ),
+    (
+        "http://www.w3.org/2000/01/rdf-schema#seeAlso",
+        "http://u.example/b7",
+        "skipped",
+    ),
+    (
+        "http://www.w3.org/2000/01/rdf-schema#isDefinedBy",
+        "http://u.example/b7",
+        "skipped",
+    ),
+    (
+        "http://www.w3.org/2000/01/rdf-schema#range",
+        "http://u.example/b7",
+        "UnknownTerm",
+    ),
+];
+
 #[test]
 fn a_triple_says_what_its_names_are(rt: HostRuntime) -> Result<(), Fail> {
     let alloc = rt.alloc();
     let ontology = school(alloc)?;
-    for (predicate, written, want) in [
-        (TYPE, "http://u.example/Prof", "class 0"),
-        (TYPE, "http://u.example/Dean", "UnknownTerm"),
-        (TYPE, "http://u.example/teaches", "WrongKind"),
-        (TYPE, "http://u.example/note", "WrongKind"),
-        (TYPE, "\"Prof", "WrongKind"),
-        (TYPE, "http://www.w3.org/2002/07/owl#Thing", "skipped"),
-        (
-            TYPE,
-            "http://www.w3.org/2002/07/owl#NamedIndividual",
-            "skipped",
-        ),
-        (TYPE, "http://www.w3.org/2002/07/owl#Nothing", "UnknownTerm"),
-        (
-            "http://u.example/teaches",
-            "http://u.example/Prof",
-            "role 1",
-        ),
-        ("http://u.example/teaches", "\"logic", "WrongKind"),
-        ("http://u.example/badge", "\"7", "attr 2"),
-        ("http://u.example/badge", "http://u.example/b7", "WrongKind"),
-        ("http://u.example/Prof", "http://u.example/b7", "WrongKind"),
-        (
-            "http://u.example/knows",
-            "http://u.example/b7",
-            "UnknownTerm",
-        ),
-        ("http://u.example/note", "http://u.example/b7", "skipped"),
-        ("http://u.example/note", "\"old", "skipped"),
-        (
-            "http://www.w3.org/2000/01/rdf-schema#label",
-            "\"Ann",
-            "skipped",
-        ),
-        (
-            "http://www.w3.org/2000/01/rdf-schema#comment",
-            "\"Ann",
-            "skipped",
-        ),
-        (
-            "http://www.w3.org/2000/01/rdf-schema#seeAlso",
-            "http://u.example/b7",
-            "skipped",
-        ),
-        (
-            "http://www.w3.org/2000/01/rdf-schema#isDefinedBy",
-            "http://u.example/b7",
-            "skipped",
-        ),
-        (
-            "http://www.w3.org/2000/01/rdf-schema#range",
-            "http://u.example/b7",
-            "UnknownTerm",
-        ),
-    ] {
+    for (predicate, written, want) in TRIPLES {
         let subject = Name::of(alloc, b"http://u.example/ann")?;
         let object = object(alloc, written)?;
         let answer = told(

@@ -1,16 +1,17 @@
 use Rattle.std.proofs.Common.{sym, subst, List, ℕ, length, drop, ◌-◌}
 use Rattle.dl_runs.specs.Runs.{IsRun}
-use Rattle.dl_runs.proofs.CharLaws.{run_none, run_more, run_all, run_within, shorter}
+use Rattle.dl_runs.proofs.CharLaws.{run_none, run_all, run_within}
+use Rattle.dl_runs.proofs.StretchLaws.{run_stretch}
 use Rattle.dl_runs.proofs.runs.run.Goals as goal
 
 pub loop-behind-init : goal.loop-behind-init
 loop-behind-init c = run_none c.args.class c.args.bytes.now
 
 pub loop-behind-preserved : goal.loop-behind-preserved
-loop-behind-preserved c = run_more c.args.class c.args.bytes.now c.loop-behind.rest.now c.in-Some.behind.now c.in-Some.ensures.0 c.loop-behind.invariant c.in-Some.ensures.1 c.in-Some.ensures.2
+loop-behind-preserved c = run_stretch c.args.class c.args.bytes.now c.loop-behind.rest.now c.in-Some.behind.now c.loop-behind.invariant c.in-Some.ensures
 
 pub loop-behind-smaller : goal.loop-behind-smaller
-loop-behind-smaller c = shorter c.loop-behind.rest.now c.in-Some.behind.now c.in-Some.ensures.0 c.in-Some.ensures.1
+loop-behind-smaller c = c.in-Some.ensures.some
 
 pub overflow_sub-bytes : goal.overflow_sub-bytes
 overflow_sub-bytes c = run_within c.args.class c.args.bytes.now c.loop-behind.rest.now c.loop-behind.invariant

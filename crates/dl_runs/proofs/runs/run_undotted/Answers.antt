@@ -1,7 +1,7 @@
 use Rattle.std.proofs.Common.{sym, subst, List, ℕ, length, drop, ◌-◌}
 use Rattle.dl_runs.specs.Runs.{IsUndotted}
-use Rattle.dl_runs.proofs.CharLaws.{shorter}
-use Rattle.dl_runs.proofs.DotLaws.{undotted_none, undotted_more, undotted_all, undotted_within}
+use Rattle.dl_runs.proofs.DotLaws.{undotted_none, undotted_all, undotted_within}
+use Rattle.dl_runs.proofs.StretchLaws.{undotted_stretch}
 use Rattle.dl_runs.proofs.runs.run_undotted.Goals as goal
 
 pub loop-behind-init : goal.loop-behind-init
@@ -9,11 +9,10 @@ loop-behind-init c = undotted_none c.args.class c.args.bytes.now
 
 pub loop-behind-preserved : goal.loop-behind-preserved
 loop-behind-preserved c =
-    undotted_more c.args.class c.args.bytes.now c.loop-behind.end.now c.loop-behind.rest.now c.in-Some.behind.now c.end_behind-end.result.now c.in-Some.ensures.0 c.loop-behind.invariant c.in-Some.ensures.1 c.in-Some.ensures.2
-    c.end_behind-end.ensures
+    undotted_stretch c.args.class c.args.bytes.now c.loop-behind.end.now c.loop-behind.rest.now c.in-Some.behind.now c.end_behind-end.result.now c.loop-behind.invariant c.in-Some.ensures c.end_behind-end.ensures
 
 pub loop-behind-smaller : goal.loop-behind-smaller
-loop-behind-smaller c = shorter c.loop-behind.rest.now c.in-Some.behind.now c.in-Some.ensures.0 c.in-Some.ensures.1
+loop-behind-smaller c = c.in-Some.ensures.some
 
 pub overflow_sub-bytes : goal.overflow_sub-bytes
 overflow_sub-bytes c = undotted_within c.args.class c.args.bytes.now c.loop-behind.end.now c.loop-behind.rest.now c.loop-behind.invariant

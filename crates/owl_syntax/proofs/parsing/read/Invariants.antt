@@ -2,8 +2,8 @@ use Rattle.std.proofs.Common.{length}
 use Rattle.owl_syntax.proofs.ParseLaws.{IsParsedTo}
 use Rattle.owl_syntax.proofs.parsing.read.Given as goal
 
-abbrev pub invariant-loop-rest : goal.invariant-loop-rest
-invariant-loop-rest l = IsParsedTo l.bytes l.progress l.line l.rest
+abbrev pub invariant-loop-first : goal.invariant-loop-first
+invariant-loop-first l = IsParsedTo l.bytes l.progress l.line l.rest
 
-abbrev pub decreases-loop-rest : goal.decreases-loop-rest
-decreases-loop-rest l = length l.rest
+abbrev pub decreases-loop-first : goal.decreases-loop-first
+decreases-loop-first l = length l.rest

@@ -8,4 +8,4 @@ pub follows-requires : goal.follows-requires
 follows-requires c = subst (λ (t : Theory). Knows t c.args.given.now) (sym c.entailers.ensures) c.requires
 
 pub returns : goal.returns
-returns c = subst (λ (t : Theory). Lists (InClosure t.axioms (c.args.given.now ∷ [])) c.in_ok-facts.facts.items) c.entailers.ensures c.in_ok-facts.ensures
+returns c = subst (λ (t : Theory). Lists (InClosure t.axioms (c.args.given.now ∷ [])) c.in_ok-facts.facts.items) c.entailers.ensures c.in_ok-facts.ensures.ok

@@ -1,0 +1,10 @@
+pub mod LinkOrder
+pub mod RunLaws
+pub mod LinkLaws
+pub mod NumberLaws
+pub mod FactLaws
+pub mod OrderedLaws
+pub mod IndexLaws
+pub mod FoundLaws
+pub mod CountLaws
+pub mod WholeLaws

@@ -1,0 +1,12 @@
+pub mod Growing
+pub mod Views
+pub mod Queues
+pub mod Carrying
+pub mod Homes
+pub mod Starting
+pub mod Turning
+pub mod Looking
+pub mod Adding
+pub mod Passing
+pub mod Splitting
+pub mod Joining

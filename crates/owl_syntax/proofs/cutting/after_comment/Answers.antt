@@ -1,5 +1,0 @@
-use Rattle.owl_syntax.proofs.NameLaws.{whole_comment}
-use Rattle.owl_syntax.proofs.cutting.after_comment.Goals as goal
-
-pub returns-in-None : goal.returns-in-None
-returns-in-None c = whole_comment c.args.bytes.now c.in-None.ensures

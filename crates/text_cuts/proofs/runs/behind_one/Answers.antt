@@ -1,6 +1,0 @@
-use Rattle.std.proofs.Common.{sym, ◌∙◌}
-use Rattle.text_cuts.proofs.CharLaws.{not_begun}
-use Rattle.text_cuts.proofs.runs.behind_one.Goals as goal
-
-pub returns-else-is_of : goal.returns-else-is_of
-returns-else-is_of c = not_begun c.args.class c.args.bytes.now c.in-Some.behind.now c.in-Some.c c.in-Some.ensures.0 (sym c.is_of.ensures ∙ c.if-is_of.false)

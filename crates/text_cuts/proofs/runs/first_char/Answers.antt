@@ -1,5 +1,0 @@
-use Rattle.text_cuts.proofs.CharLaws.{nothing_begins}
-use Rattle.text_cuts.proofs.runs.first_char.Goals as goal
-
-pub returns-in-None : goal.returns-in-None
-returns-in-None c = nothing_begins c.args.bytes.now c.in-None.ensures.cases
