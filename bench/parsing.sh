@@ -1,14 +1,14 @@
 #!/bin/sh
-# Times how an ontology's text is parsed, by texts of 8 and 16 MiB that are refused only at their last token: `dlupdate check` reads each file,
-# looks at its UTF-8, cuts its tokens and builds its tree, and then stops, before any axiom is taken. Beside it a plain copy of the same file.
-# Usage: bench/parsing.sh PROGRAM   as in   bench/parsing.sh crates/dlupdate/out/dlupdate
+# Times how an ontology's text is parsed, by texts of 8 and 16 MiB: `read_tree` reads each file, looks at its UTF-8, cuts its tokens, builds its tree, drops
+# it and ends. Beside it a plain copy of the same file. The time is that of the whole run, reading the file included.
+# Usage: bench/parsing.sh PROGRAM   as in   bench/parsing.sh crates/read_tree/out/read_tree
 # Wanted: at least 40 MB/s, and half of the text in about half of the time and of the memory. On a busy machine the processor's time, called work, tells more.
 set -eu
 program=$1
 folder=$(mktemp -d)
 trap 'rm -rf "$folder"' EXIT
 
-# make NAME BYTES: a text of at most so many bytes, with one parenthesis too many at its end.
+# make NAME BYTES: a text of at most so many bytes, and how many axioms it has.
 make() {
     awk -v most="$2" 'BEGIN {
         srand(7)
@@ -23,10 +23,10 @@ make() {
             else if (kind < 9) text = sprintf("ObjectPropertyAssertion(:teaches%02d :person%06d :course%06d)\n", b % 100, i, j)
             else text = sprintf("DataPropertyAssertion(:badge :person%06d \"%d\"^^xsd:integer)\n", i, j)
             size += length(text)
-            if (size > most - 3) break
+            if (size > most - 2) break
             printf "%s", text; if (kind != 4) axioms++; else axioms += 2
         }
-        printf "))\n"
+        print ")"
         print axioms > "/dev/stderr"
     }' > "$folder/$1.ofn" 2> "$folder/$1.axioms"
 }
@@ -34,13 +34,10 @@ make() {
 # measure NAME: one line.
 measure() {
     bytes=$(wc -c < "$folder/$1.ofn")
-    lines=$(wc -l < "$folder/$1.ofn")
     /usr/bin/time -f '%e %M' -o "$folder/copy" cat "$folder/$1.ofn" > /dev/null
-    said=$(/usr/bin/time -q -f '%e %M %U %S' -o "$folder/program" "$program" check "$folder/$1.ofn" || true)
-    case $said in
-        *" 10 Syntax line $lines") ;;
-        *) echo "not refused at the last line, which is $lines: $said" >&2; exit 1 ;;
-    esac
+    said=$(/usr/bin/time -f '%e %M %U %S' -o "$folder/program" "$program" "$folder/$1.ofn")
+    # The IRI of the ontology is one node more.
+    [ "$said" = "nodes $(($(cat "$folder/$1.axioms") + 1))" ] || { echo "not parsed: $said" >&2; exit 1; }
     awk -v name="$1" -v bytes="$bytes" -v axioms="$(cat "$folder/$1.axioms")" -v copy="$(cat "$folder/copy")" '
     function speed(seconds) { return bytes / 1e6 / (seconds > 0 ? seconds : 0.01) }
     {

@@ -3,6 +3,7 @@ pub mod NameLaws
 pub mod PieceLaws
 pub mod QuoteLaws
 pub mod ParseLaws
+pub mod LineLaws
 pub mod RunLaws
 pub mod AcceptLaws
 pub mod CoverLaws

@@ -110,7 +110,7 @@ parsed_none bytes progress f = record {
 }
 
 pub parsed_more : (bytes : List ℕ) (progress next : Progress) (line : ℕ) (here : List ℕ) (shape : Shape) (rest : List ℕ) → IsParsedTo bytes progress line here → Cuts here shape rest → IsSound shape
-    → IsStepped progress (tokens_at line shape) (Ok next) → IsParsedTo bytes next (line + count_by is_end (take (length here - length rest) here)) rest
+    → IsStepped progress next (tokens_at line shape) → IsParsedTo bytes next (line + count_by is_end (take (length here - length rest) here)) rest
 parsed_more bytes progress next line here shape rest p c s step =
     let h = front_of_piece here rest shape c in
     let n : length h.front ≡ length here - length rest = omega (arith, ap length h.is, length-append h.front rest) in

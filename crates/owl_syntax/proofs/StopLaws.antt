@@ -6,10 +6,10 @@ use Rattle.owl_syntax.specs.declared.nodes.PrefixLine.{PrefixLine}
 use Rattle.owl_syntax.specs.Shapes.{Shape, Token, at}
 use Rattle.owl_syntax.specs.Trees.{Forest, none, word, Content}
 use Rattle.owl_syntax.specs.Grammar.{IsShallow, IsFront, IsDocument, StopsAtToken, StopsAtEnd}
-use Rattle.owl_syntax.specs.Reading.{State, Lines, Done, after_shape, runs, kind_in, state_of}
-use Rattle.owl_syntax.specs.declared.states.State as state_type
-use Rattle.owl_syntax.specs.declared.states.State.TheVariants as states
-use Rattle.owl_syntax.specs.declared.prefixes.Prefixes as prefixes_type
+use Rattle.owl_syntax.specs.Reading.{State, Lines, Done, after_shape, runs, kind_in, state_in}
+use Rattle.owl_syntax.specs.declared.states.Nest as nest_type
+use Rattle.owl_syntax.specs.declared.states.Phase as phase_type
+use Rattle.owl_syntax.specs.declared.states.Phase.TheVariants as phases
 use Rattle.owl_syntax.proofs.RunLaws.{runs_push, runs_stuck}
 use Rattle.owl_syntax.proofs.AcceptLaws.{accepts}
 use Rattle.owl_syntax.proofs.StateLaws.{covers, alive, done_spells}
@@ -80,10 +80,10 @@ pub ends_well : (lines : List PrefixLine) (line : ℕ) (text : List ℕ) (args :
 ends_well lines line text args content ts g p r = (g.1, done_spells lines line text args content ts (covers (Done lines line text args) ts g.0) p r)
 
 -- a state of the code that is no end
-pub unfinished : (s : state_type.State)
-    → ((prefixes : prefixes_type.Prefixes) (line : ℕ) (text : _) (args : _) → ¬ (s ≡ states.Done prefixes line text args)) → IsUnfinished (state_of s)
-unfinished (states.Lines p) n lines line text args e = cc
-unfinished (states.Prefix p l t) n lines line text args e = cc
-unfinished (states.Root p l t) n lines line text args e = cc
-unfinished (states.Body p l t m d) n lines line text args e = cc
-unfinished (states.Done p l t a) n lines line text args e = n p l t a refl
+pub unfinished : (phase : phase_type.Phase) (lines : List PrefixLine) (line : ℕ) (text : List ℕ) (nest : nest_type.Nest)
+    → phase ≢ phases.Done → IsUnfinished (state_in phase lines line text nest)
+unfinished phases.Lines ls l t m n lines line text args e = cc
+unfinished (phases.Prefix p) ls l t m n lines line text args e = cc
+unfinished phases.Root ls l t m n lines line text args e = cc
+unfinished phases.Body ls l t m n lines line text args e = cc
+unfinished phases.Done ls l t m n lines line text args e = n refl

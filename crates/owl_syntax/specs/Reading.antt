@@ -13,15 +13,17 @@ use Rattle.owl_syntax.specs.declared.states.Pending as pending_type
 use Rattle.owl_syntax.specs.declared.states.Pending.TheVariants as pendings
 use Rattle.owl_syntax.specs.declared.states.Part as part_type
 use Rattle.owl_syntax.specs.declared.states.Part.TheVariants as parts
+use Rattle.owl_syntax.specs.declared.states.Phase as phase_type
+use Rattle.owl_syntax.specs.declared.states.Phase.TheVariants as phases
 use Rattle.owl_syntax.specs.declared.states.State as state_type
-use Rattle.owl_syntax.specs.declared.states.State.TheVariants as states
-use Rattle.owl_syntax.specs.declared.body.Stepped as stepped_type
-use Rattle.owl_syntax.specs.declared.body.Stepped.TheVariants as steppeds
+use Rattle.owl_syntax.specs.declared.states.Turn as turn_type
+use Rattle.owl_syntax.specs.declared.states.Turn.TheVariants as turns
 use Rattle.owl_syntax.specs.Shapes.{Shape, Gap, Open, Close, Equals, Hats, Tag, Word, Iri, Prefixed, Blank, Digits, Text, Token, at}
 use Rattle.owl_syntax.specs.Trees.{untyped, by_iri, by_name, iri, blank, digits, prefixed, literal, Forest, none, leaf, word, group, forest_of, attach, Content}
 use Rattle.owl_syntax.specs.declared.parsing.Progress as progress_type
-use Rattle.owl_syntax.specs.declared.parsing.Progress.TheVariants as progresses
+use Rattle.owl_syntax.specs.declared.parsing.Stop as stop_type
 use Rattle.dl_base.specs.declared.memory.OutOfMemory.{OutOfMemory}
+use Rattle.dl_runs.specs.Classes.{IsBlank}
 use Rattle.dl_text.specs.declared.refusals.ReadRefusal.{ReadRefusal}
 use Rattle.dl_text.specs.declared.refusals.ReadRefusal.TheVariants.{Refused}
 use Rattle.dl_text.specs.declared.refusals.ReadRefusal.TheVariants as refusals
@@ -230,17 +232,26 @@ part_of (parts.Named named) = Named named.now
 part_of (parts.Equalled named) = Equalled named.now
 part_of (parts.Valued named inner) = Valued named.now inner.now
 
-abbrev pub stepped_of : stepped_type.Stepped → Stepped
-stepped_of (steppeds.On n pending) = On (nest_of n) (pending_of pending)
-stepped_of (steppeds.Closed args) = Closed (forest_of args.items)
-stepped_of steppeds.Stuck = Stuck
+abbrev pub turn_of : nest_type.Nest → turn_type.Turn → Stepped
+turn_of n turns.On = On (nest_of n) (pending_of n.pending)
+turn_of n turns.Closed = Closed (forest_of n.since.items)
+turn_of n turns.Stuck = Stuck
+
+-- the state of a phase with these prefix lines, this word and its line, and these nodes
+abbrev pub state_in : phase_type.Phase → List PrefixLine → ℕ → List ℕ → nest_type.Nest → State
+state_in phases.Lines lines line text n = Lines lines
+state_in (phases.Prefix part) lines line text n = InPrefix lines line (part_of part)
+state_in phases.Root lines line text n = Root lines line text
+state_in phases.Body lines line text n = Body lines line text (nest_of n) (pending_of n.pending)
+state_in phases.Done lines line text n = Done lines line text (forest_of n.since.items)
 
 abbrev pub state_of : state_type.State → State
-state_of (states.Lines lines) = Lines lines.lines.items
-state_of (states.Prefix lines line part) = InPrefix lines.lines.items line (part_of part)
-state_of (states.Root lines line text) = Root lines.lines.items line text.now
-state_of (states.Body lines line text n pending) = Body lines.lines.items line text.now (nest_of n) (pending_of pending)
-state_of (states.Done lines line text args) = Done lines.lines.items line text.now (forest_of args.items)
+state_of s = state_in s.phase s.prefixes.lines.items s.line s.text.now s.nest
+
+-- the state, if no token was refused
+abbrev pub onward : State → Bool → Option State
+onward state true = Some state
+onward state false = None
 
 abbrev pub maybe : {X Y : Type 0} → (X → Y) → Option X → Option Y
 maybe view None = None
@@ -259,25 +270,29 @@ grown (nest rank outer since) node = nest rank outer (attach since node)
 abbrev pub IsRead : state_type.State → List Token → Type 0
 IsRead state tokens = (runs (Some (Lines [])) tokens ≡ Some (state_of state)) × IsShallow tokens
 
+-- the state is that behind these tokens, or they stop there
+abbrev pub FitsIn : state_type.State → Option stop_type.Stop → List Token → Type 0
+FitsIn state None tokens = IsRead state tokens
+FitsIn state (Some stop) tokens = StopsAtToken tokens stop.line stop.kind
+
 -- the progress is that of these tokens
 abbrev pub Fits : progress_type.Progress → List Token → Type 0
-Fits (progresses.Going state) tokens = IsRead state tokens
-Fits (progresses.Stopped line kind) tokens = StopsAtToken tokens line kind
+Fits progress tokens = FitsIn progress.state progress.stopped tokens
 
-abbrev pub IsTaken : state_type.State → Token → Result progress_type.Progress OutOfMemory → Type 0
-IsTaken state token (Ok next) = (tokens : List Token) → IsRead state tokens → Fits next (tokens ++ token ∷ [])
-IsTaken state token (Err e) = Unit {0}
+abbrev pub IsTaken : state_type.State → state_type.State → Token → Result (Option stop_type.Stop) OutOfMemory → Type 0
+IsTaken old new token (Ok stopped) = (tokens : List Token) → IsRead old tokens → FitsIn new stopped (tokens ++ token ∷ [])
+IsTaken old new token (Err e) = Unit {0}
 
-abbrev pub IsAdvanced : progress_type.Progress → Token → Result progress_type.Progress OutOfMemory → Type 0
-IsAdvanced progress token (Ok next) = (tokens : List Token) → Fits progress tokens → Fits next (tokens ++ token ∷ [])
-IsAdvanced progress token (Err e) = Unit {0}
-
-abbrev pub IsStepped : progress_type.Progress → List Token → Result progress_type.Progress OutOfMemory → Type 0
-IsStepped progress out (Ok next) = (tokens : List Token) → Fits progress tokens → Fits next (tokens ++ out)
-IsStepped progress out (Err e) = Unit {0}
+abbrev pub IsStepped : progress_type.Progress → progress_type.Progress → List Token → Type 0
+IsStepped old new out = (tokens : List Token) → Fits old tokens → Fits new (tokens ++ out)
 
 -- the third pass at the end of all tokens, on the line where the text ends
 abbrev pub IsFinished : List Token → ℕ → Result Content ReadRefusal → Type 0
 IsFinished tokens end (Ok content) = IsDocument tokens content
 IsFinished tokens end (Err (Refused line kind)) = Stops tokens end line kind
 IsFinished tokens end (Err refusals.OutOfMemory) = ⊥
+
+-- the text has no blank in front
+abbrev pub BeginsNoBlank : List ℕ → Type 0
+BeginsNoBlank [] = Unit {0}
+BeginsNoBlank (b ∷ bs) = ¬ IsBlank b

@@ -5,24 +5,17 @@ ghost use Rattle.owl_syntax.specs.Shapes.{shape_of};
 ghost use Rattle.owl_syntax.specs.Trees.{attach, forest_of, none, literal, untyped, datatype_of};
 ghost use Rattle.owl_syntax.specs.Trees as trees;
 ghost use Rattle.owl_syntax.specs.Reading as reading;
-ghost use Rattle.owl_syntax.specs.Reading.{nest_of, outer_of, stepped_of, head_of, pending_of, is_frame, grown, put_leaf, put_name, put_word, put_text, put_group, open_with, closed, ready, behind_text, behind_hats, stepped, close_with, Gives};
+ghost use Rattle.owl_syntax.specs.Reading.{nest_of, outer_of, turn_of, head_of, pending_of, is_frame, grown, put_leaf, put_name, put_word, put_text, put_group, open_with, closed, ready, behind_text, behind_hats, stepped, close_with, Gives, Nothing};
 
 use crate::nodes::Node;
 use crate::pieces::Piece;
-use crate::states::{Head, Nest, Opened, Pending};
+use crate::states::{Head, Nest, Opened, Pending, Turn};
 use dl_base::OutOfMemory;
 use std::alloc::Global;
+use std::mem;
 
 /// How many arguments most words have.
 const USUAL_ARGS: usize = 2;
-
-/// What a token makes of the nodes inside a document.
-#[derive(Debug, Drop)]
-pub enum Stepped<'b> {
-    On(Nest<'b>, Pending<'b>),
-    Closed(Vec<Node<'b>>),
-    Stuck,
-}
 
 /// The rank of a word's part of the frame: imports, then annotations, then axioms.
 fn rank_of(word: &[u8]) -> u8
@@ -39,12 +32,14 @@ fn rank_of(word: &[u8]) -> u8
 
 impl<'b> Nest<'b> {
     pub fn new(alloc: Global) -> Nest<'b>
-        ensures { nest_of result ≡ reading.nest 0 [] none }
+        ensures nest { nest_of result ≡ reading.nest 0 [] none }
+        ensures pending { pending_of result.pending ≡ Nothing }
     {
         Nest {
             rank: 0,
             outer: Vec::new(alloc),
             since: Vec::new(alloc),
+            pending: Pending::Nothing,
         }
     }
 
@@ -62,111 +57,103 @@ impl<'b> Nest<'b> {
         self.outer.len()
     }
 
-    /// With one node more.
-    fn with(mut self, node: Node<'b>) -> Result<Nest<'b>, OutOfMemory>
-        ensures { Gives (grown (nest_of self.entry) node.entry) (seen nest_of result) }
+    /// One node more.
+    fn add(&mut self, node: Node<'b>) -> Result<(), OutOfMemory>
+        ensures { IfOk result (λ _. (nest_of self.new ≡ grown (nest_of self.old) node.entry) × (pending_of self.new.pending ≡ Nothing)) }
     {
-        self.since.push(node)?;
-        Ok(self)
+        self.since.reserve(1)?;
+        self.since.push_reserved(node);
+        self.pending = Pending::Nothing;
+        Ok(())
     }
 
     /// A node that may not stand in the frame.
-    fn leaf(self, node: Node<'b>) -> Result<Stepped<'b>, OutOfMemory>
-        ensures { Gives (put_leaf (nest_of self.entry) (λ f. attach f node.entry)) (seen stepped_of result) }
+    fn leaf(&mut self, node: Node<'b>) -> Result<Turn, OutOfMemory>
+        ensures { Gives (put_leaf (nest_of self.old) (λ f. attach f node.entry)) (seen (turn_of self.new) result) }
     {
         if self.is_frame() {
-            return Ok(Stepped::Stuck);
+            return Ok(Turn::Stuck);
         }
-        Ok(Stepped::On(self.with(node)?, Pending::Nothing))
+        self.add(node)?;
+        Ok(Turn::On)
     }
 
     /// A name, of which the frame has at most two.
-    fn name(mut self, node: Node<'b>) -> Result<Stepped<'b>, OutOfMemory>
-        ensures { Gives (put_name (nest_of self.entry) (λ f. attach f node.entry)) (seen stepped_of result) }
+    fn name(&mut self, node: Node<'b>) -> Result<Turn, OutOfMemory>
+        ensures { Gives (put_name (nest_of self.old) (λ f. attach f node.entry)) (seen (turn_of self.new) result) }
     {
         if self.is_frame() {
             if self.rank >= 2 {
-                return Ok(Stepped::Stuck);
+                return Ok(Turn::Stuck);
             }
             self.rank += 1;
         }
-        Ok(Stepped::On(self.with(node)?, Pending::Nothing))
+        self.add(node)?;
+        Ok(Turn::On)
     }
 
     /// A word, which stands in the frame by its rank.
-    fn word(mut self, line: u64, text: &'b [u8]) -> Stepped<'b>
-        ensures { stepped_of result ≡ put_word (nest_of self.entry) line text.now }
+    fn word(&mut self, line: u64, text: &'b [u8]) -> Turn
+        ensures { turn_of self.new result ≡ put_word (nest_of self.old) line text.now }
     {
         if self.is_frame() {
             let rank = rank_of(text);
             if self.rank > rank {
-                return Stepped::Stuck;
+                return Turn::Stuck;
             }
             self.rank = rank;
         }
-        Stepped::On(self, Pending::Word(line, text))
+        self.pending = Pending::Word(line, text);
+        Turn::On
     }
 
-    fn text(self, line: u64, text: &'b [u8]) -> Stepped<'b>
-        ensures { stepped_of result ≡ put_text (nest_of self.entry) line text.now }
+    fn text(&mut self, line: u64, text: &'b [u8]) -> Turn
+        ensures { turn_of self.new result ≡ put_text (nest_of self.old) line text.now }
     {
         if self.is_frame() {
-            return Stepped::Stuck;
+            return Turn::Stuck;
         }
-        Stepped::On(self, Pending::Text(line, text))
+        self.pending = Pending::Text(line, text);
+        Turn::On
     }
 
-    fn group(self, alloc: Global, line: u64) -> Result<Stepped<'b>, OutOfMemory>
-        ensures { Gives (put_group (nest_of self.entry) line) (seen stepped_of result) }
+    fn group(&mut self, alloc: Global, line: u64) -> Result<Turn, OutOfMemory>
+        ensures { Gives (put_group (nest_of self.old) line) (seen (turn_of self.new) result) }
     {
         if self.is_frame() {
-            return Ok(Stepped::Stuck);
+            return Ok(Turn::Stuck);
         }
-        self.opened(alloc, Head::Group(line))
+        self.open(alloc, Head::Group(line))
     }
 
-    /// With one parenthesis more.
-    fn opened(self, alloc: Global, head: Head<'b>) -> Result<Stepped<'b>, OutOfMemory>
-        ensures { Gives (open_with (nest_of self.entry) (head_of head.entry)) (seen stepped_of result) }
+    /// One parenthesis more.
+    fn open(&mut self, alloc: Global, head: Head<'b>) -> Result<Turn, OutOfMemory>
+        ensures { Gives (open_with (nest_of self.old) (head_of head.entry)) (seen (turn_of self.new) result) }
     {
-        let Nest {
-            rank,
-            mut outer,
-            since,
-        } = self;
-        outer.push(Opened {
-            before: since,
-            head,
-        })?;
         let since = Vec::with_capacity(alloc, USUAL_ARGS)?;
-        Ok(Stepped::On(Nest { rank, outer, since }, Pending::Nothing))
+        let before = mem::replace(&mut self.since, since);
+        self.outer.push(Opened { before, head })?;
+        self.pending = Pending::Nothing;
+        Ok(Turn::On)
     }
 
-    /// With one parenthesis less.
-    fn closed(self) -> Result<Stepped<'b>, OutOfMemory>
-        ensures { Gives (closed (nest_of self.entry)) (seen stepped_of result) }
+    /// One parenthesis less.
+    fn close(&mut self) -> Result<Turn, OutOfMemory>
+        ensures { Gives (closed (nest_of self.old)) (seen (turn_of self.new) result) }
     {
-        let Nest {
-            rank,
-            mut outer,
-            since,
-        } = self;
-        match outer.pop() {
-            None => Ok(Stepped::Closed(since)),
+        match self.outer.pop() {
+            None => Ok(Turn::Closed),
             Some(Opened { before, head }) => {
-                let nest = Nest {
-                    rank,
-                    outer,
-                    since: before,
-                };
-                Ok(Stepped::On(nest.with(node_of(head, since))?, Pending::Nothing))
+                let args = mem::replace(&mut self.since, before);
+                self.add(node_of(head, args))?;
+                Ok(Turn::On)
             }
         }
     }
 
     /// A token where no node is pending.
-    fn ready(self, alloc: Global, piece: Piece<'b>, line: u64) -> Result<Stepped<'b>, OutOfMemory>
-        ensures { Gives (ready (nest_of self.entry) line (shape_of piece.entry)) (seen stepped_of result) }
+    fn ready(&mut self, alloc: Global, piece: Piece<'b>, line: u64) -> Result<Turn, OutOfMemory>
+        ensures { Gives (ready (nest_of self.old) line (shape_of piece.entry)) (seen (turn_of self.new) result) }
     {
         match piece {
             Piece::Iri(text) => self.name(Node::Iri { line, text }),
@@ -180,44 +167,48 @@ impl<'b> Nest<'b> {
             Piece::Text(text) => Ok(self.text(line, text)),
             Piece::Word(text) => Ok(self.word(line, text)),
             Piece::Open => self.group(alloc, line),
-            Piece::Close => self.closed(),
-            _ => Ok(Stepped::Stuck),
+            Piece::Close => self.close(),
+            _ => Ok(Turn::Stuck),
         }
     }
 
     /// A token behind a string.
     fn behind_text(
-        self,
+        &mut self,
         alloc: Global,
         at: u64,
         text: &'b [u8],
         piece: Piece<'b>,
         line: u64,
-    ) -> Result<Stepped<'b>, OutOfMemory>
-        ensures { Gives (behind_text (nest_of self.entry) at text.now line (shape_of piece.entry)) (seen stepped_of result) }
+    ) -> Result<Turn, OutOfMemory>
+        ensures { Gives (behind_text (nest_of self.old) at text.now line (shape_of piece.entry)) (seen (turn_of self.new) result) }
     {
         match piece {
-            Piece::Hats => Ok(Stepped::On(self, Pending::Hats(at, text))),
-            Piece::Tag(tag) => {
-                let nest = self.with(literal(at, text, tag))?;
-                Ok(Stepped::On(nest, Pending::Nothing))
+            Piece::Hats => {
+                self.pending = Pending::Hats(at, text);
+                Ok(Turn::On)
             }
-            _ => self
-                .with(literal(at, text, &text[..0]))?
-                .ready(alloc, piece, line),
+            Piece::Tag(tag) => {
+                self.add(literal(at, text, tag))?;
+                Ok(Turn::On)
+            }
+            _ => {
+                self.add(literal(at, text, &text[..0]))?;
+                self.ready(alloc, piece, line)
+            }
         }
     }
 
     /// A token behind a string and `^^`.
     fn behind_hats(
-        self,
+        &mut self,
         alloc: Global,
         at: u64,
         text: &'b [u8],
         piece: Piece<'b>,
         line: u64,
-    ) -> Result<Stepped<'b>, OutOfMemory>
-        ensures { Gives (behind_hats (nest_of self.entry) at text.now line (shape_of piece.entry)) (seen stepped_of result) }
+    ) -> Result<Turn, OutOfMemory>
+        ensures { Gives (behind_hats (nest_of self.old) at text.now line (shape_of piece.entry)) (seen (turn_of self.new) result) }
     {
         let datatype = match piece {
             Piece::Iri(text) => Node::Iri { line, text },
@@ -226,27 +217,21 @@ impl<'b> Nest<'b> {
                 prefix,
                 local,
             },
-            _ => return Ok(Stepped::Stuck),
+            _ => return Ok(Turn::Stuck),
         };
-        let node = typed(alloc, at, text, datatype)?;
-        Ok(Stepped::On(self.with(node)?, Pending::Nothing))
+        self.add(typed(alloc, at, text, datatype)?)?;
+        Ok(Turn::On)
     }
 
     /// One token more.
-    pub fn step(
-        self,
-        alloc: Global,
-        pending: Pending<'b>,
-        piece: Piece<'b>,
-        line: u64,
-    ) -> Result<Stepped<'b>, OutOfMemory>
-        ensures { Gives (stepped (nest_of self.entry) (pending_of pending.entry) line (shape_of piece.entry)) (seen stepped_of result) }
+    pub fn step(&mut self, alloc: Global, piece: Piece<'b>, line: u64) -> Result<Turn, OutOfMemory>
+        ensures { Gives (stepped (nest_of self.old) (pending_of self.old.pending) line (shape_of piece.entry)) (seen (turn_of self.new) result) }
     {
-        match pending {
+        match self.pending {
             Pending::Nothing => self.ready(alloc, piece, line),
             Pending::Word(at, text) => match piece {
-                Piece::Open => self.opened(alloc, Head::Word(at, text)),
-                _ => Ok(Stepped::Stuck),
+                Piece::Open => self.open(alloc, Head::Word(at, text)),
+                _ => Ok(Turn::Stuck),
             },
             Pending::Text(at, text) => self.behind_text(alloc, at, text, piece, line),
             Pending::Hats(at, text) => self.behind_hats(alloc, at, text, piece, line),

@@ -1,29 +1,34 @@
-ghost use Rattle.std.specs.Prelude.{◌≡◌};
+ghost use Rattle.std.specs.Prelude.{◌≡◌, ◌++◌, ◌∷◌, [], IfOk};
 ghost use Rattle.dl_text.specs.Outcomes.{seen};
+ghost use Rattle.owl_syntax.specs.declared.states.Phase.TheVariants as phases;
 ghost use Rattle.owl_syntax.specs.Shapes.{shape_of, Prefixed};
-ghost use Rattle.owl_syntax.specs.Reading.{Started, part_of, state_of, stepped_of, maybe, between, next_part, prefix_step, in_body, after_shape, Gives};
+ghost use Rattle.owl_syntax.specs.Reading.{Lines, Started, part_of, state_of, maybe, onward, between, begun, next_part, prefix_step, after_shape, Gives};
 
-use crate::body::Stepped;
 use crate::pieces::Piece;
 use crate::prefixes::Prefixes;
-use crate::states::{Nest, Part, Pending, State};
+use crate::states::{Nest, Part, Phase, State, Turn};
 use dl_base::OutOfMemory;
 use std::alloc::Global;
+use std::mem;
 
 /// A token between `Prefix` lines.
-fn between<'b>(prefixes: Prefixes, piece: Piece<'b>, line: u64) -> Option<State<'b>>
-    ensures { maybe state_of result ≡ between prefixes.lines.items line (shape_of piece.entry) }
+fn between<'b>(state: &mut State<'b>, piece: Piece<'b>, line: u64) -> bool
+    ensures { onward (state_of state.new) result ≡ between state.old.prefixes.lines.items line (shape_of piece.entry) }
 {
     let Piece::Word(text) = piece else {
-        return None;
+        return false;
     };
+    state.line = line;
     if text == b"Prefix".as_slice() {
-        return Some(State::Prefix(prefixes, line, Part::Begun));
+        state.phase = Phase::Prefix(Part::Begun);
+        return true;
     }
     if text == b"Ontology".as_slice() {
-        return Some(State::Root(prefixes, line, text));
+        state.text = text;
+        state.phase = Phase::Root;
+        return true;
     }
-    None
+    false
 }
 
 /// The name of a `Prefix` line, which no line before it has.
@@ -71,70 +76,96 @@ fn next_part<'b>(
     }
 }
 
+/// The last parenthesis of a `Prefix` line.
+fn end_line<'b>(
+    alloc: Global,
+    state: &mut State<'b>,
+    name: &'b [u8],
+    iri: &'b [u8],
+) -> Result<(), OutOfMemory>
+    ensures { IfOk result (λ _. state_of state.new ≡ Lines (state.old.prefixes.lines.items ++ record { line = state.old.line; name = name.now; iri = iri.now } ∷ [])) }
+{
+    let prefixes = mem::replace(&mut state.prefixes, Prefixes::new(alloc));
+    state.prefixes = prefixes.with(alloc, state.line, name, iri)?;
+    state.phase = Phase::Lines;
+    Ok(())
+}
+
 /// A token in a `Prefix` line.
 fn in_prefix<'b>(
     alloc: Global,
-    prefixes: Prefixes,
-    at: u64,
+    state: &mut State<'b>,
     part: Part<'b>,
     piece: Piece<'b>,
-) -> Result<Option<State<'b>>, OutOfMemory>
-    ensures { Gives (prefix_step prefixes.lines.items at (part_of part.entry) (shape_of piece.entry)) (seen (maybe state_of) result) }
+) -> Result<bool, OutOfMemory>
+    ensures { Gives (prefix_step state.old.prefixes.lines.items state.old.line (part_of part.entry) (shape_of piece.entry)) (seen (onward (state_of state.new)) result) }
 {
     match part {
         Part::Valued(name, iri) => match piece {
-            Piece::Close => Ok(Some(State::Lines(prefixes.with(alloc, at, name, iri)?))),
-            _ => Ok(None),
+            Piece::Close => {
+                end_line(alloc, state, name, iri)?;
+                Ok(true)
+            }
+            _ => Ok(false),
         },
-        _ => match next_part(alloc, &prefixes, part, piece)? {
-            Some(then) => Ok(Some(State::Prefix(prefixes, at, then))),
-            None => Ok(None),
+        _ => match next_part(alloc, &state.prefixes, part, piece)? {
+            Some(then) => {
+                state.phase = Phase::Prefix(then);
+                Ok(true)
+            }
+            None => Ok(false),
         },
+    }
+}
+
+/// A token behind the word `Ontology`.
+fn begin<'b>(alloc: Global, state: &mut State<'b>, piece: Piece<'b>) -> bool
+    ensures { onward (state_of state.new) result ≡ begun state.old.prefixes.lines.items state.old.line state.old.text.now (shape_of piece.entry) }
+{
+    match piece {
+        Piece::Open => {
+            state.nest = Nest::new(alloc);
+            state.phase = Phase::Body;
+            true
+        }
+        _ => false,
     }
 }
 
 /// A token in `Ontology( .. )`.
 fn in_body<'b>(
-    prefixes: Prefixes,
-    at: u64,
-    text: &'b [u8],
-    stepped: Stepped<'b>,
-) -> Option<State<'b>>
-    ensures { maybe state_of result ≡ in_body prefixes.lines.items at text.now (stepped_of stepped.entry) }
+    alloc: Global,
+    state: &mut State<'b>,
+    piece: Piece<'b>,
+    line: u64,
+) -> Result<bool, OutOfMemory>
+    requires { state.old.phase ≡ phases.Body }
+    ensures { Gives (after_shape (state_of state.old) line (shape_of piece.entry)) (seen (onward (state_of state.new)) result) }
 {
-    match stepped {
-        Stepped::On(nest, pending) => Some(State::Body(prefixes, at, text, nest, pending)),
-        Stepped::Closed(args) => Some(State::Done(prefixes, at, text, args)),
-        Stepped::Stuck => None,
+    match state.nest.step(alloc, piece, line)? {
+        Turn::On => Ok(true),
+        Turn::Closed => {
+            state.phase = Phase::Done;
+            Ok(true)
+        }
+        Turn::Stuck => Ok(false),
     }
 }
 
-/// The state behind one token more, `None` where no document goes on with it.
+/// One token more. False where no document goes on with it, and then nothing is said of the state.
 pub fn next<'b>(
     alloc: Global,
-    state: State<'b>,
+    state: &mut State<'b>,
     piece: Piece<'b>,
     line: u64,
-) -> Result<Option<State<'b>>, OutOfMemory>
-    ensures { Gives (after_shape (state_of state.entry) line (shape_of piece.entry)) (seen (maybe state_of) result) }
+) -> Result<bool, OutOfMemory>
+    ensures { Gives (after_shape (state_of state.old) line (shape_of piece.entry)) (seen (onward (state_of state.new)) result) }
 {
-    match state {
-        State::Lines(prefixes) => Ok(between(prefixes, piece, line)),
-        State::Prefix(prefixes, at, part) => in_prefix(alloc, prefixes, at, part, piece),
-        State::Root(prefixes, at, text) => match piece {
-            Piece::Open => Ok(Some(State::Body(
-                prefixes,
-                at,
-                text,
-                Nest::new(alloc),
-                Pending::Nothing,
-            ))),
-            _ => Ok(None),
-        },
-        State::Body(prefixes, at, text, nest, pending) => {
-            let stepped = nest.step(alloc, pending, piece, line)?;
-            Ok(in_body(prefixes, at, text, stepped))
-        }
-        State::Done(_, _, _, _) => Ok(None),
+    match state.phase {
+        Phase::Lines => Ok(between(state, piece, line)),
+        Phase::Prefix(part) => in_prefix(alloc, state, part, piece),
+        Phase::Root => Ok(begin(alloc, state, piece)),
+        Phase::Body => in_body(alloc, state, piece, line),
+        Phase::Done => Ok(false),
     }
 }

@@ -15,17 +15,6 @@ pub struct Opened<'b> {
     pub head: Head<'b>,
 }
 
-/// The nodes read inside `Ontology( .. )`.
-#[derive(Debug, Drop)]
-pub struct Nest<'b> {
-    /// The rank of the last part of the frame.
-    pub rank: u8,
-    /// The parentheses that are open, the innermost last.
-    pub outer: Vec<Opened<'b>>,
-    /// The nodes since the innermost of them.
-    pub since: Vec<Node<'b>>,
-}
-
 /// A node of which more tokens are to come, or may come.
 #[derive(Clone, Copy, Debug)]
 pub enum Pending<'b> {
@@ -38,6 +27,27 @@ pub enum Pending<'b> {
     Hats(u64, &'b [u8]),
 }
 
+/// The nodes read inside `Ontology( .. )`.
+#[derive(Debug, Drop)]
+pub struct Nest<'b> {
+    /// The rank of the last part of the frame.
+    pub rank: u8,
+    /// The parentheses that are open, the innermost last.
+    pub outer: Vec<Opened<'b>>,
+    /// The nodes since the innermost of them.
+    pub since: Vec<Node<'b>>,
+    /// The node behind those.
+    pub pending: Pending<'b>,
+}
+
+/// What a token makes of the nodes inside a document: they go on, the document's last parenthesis closes, or no document goes on with it.
+#[derive(Clone, Copy, Debug)]
+pub enum Turn {
+    On,
+    Closed,
+    Stuck,
+}
+
 /// How far a `Prefix` line has been read behind its word.
 #[derive(Clone, Copy, Debug)]
 pub enum Part<'b> {
@@ -48,12 +58,24 @@ pub enum Part<'b> {
     Valued(&'b [u8], &'b [u8]),
 }
 
+/// The part of a document in which its last token stands.
+#[derive(Clone, Copy, Debug)]
+pub enum Phase<'b> {
+    Lines,
+    Prefix(Part<'b>),
+    Root,
+    Body,
+    Done,
+}
+
 /// What has been read of a document.
 #[derive(Debug, Drop)]
-pub enum State<'b> {
-    Lines(Prefixes),
-    Prefix(Prefixes, u64, Part<'b>),
-    Root(Prefixes, u64, &'b [u8]),
-    Body(Prefixes, u64, &'b [u8], Nest<'b>, Pending<'b>),
-    Done(Prefixes, u64, &'b [u8], Vec<Node<'b>>),
+pub struct State<'b> {
+    pub prefixes: Prefixes,
+    /// The line of the last word outside `Ontology( .. )`, which is `Prefix` or `Ontology`.
+    pub line: u64,
+    /// The word `Ontology`, from the phase `Root` on.
+    pub text: &'b [u8],
+    pub nest: Nest<'b>,
+    pub phase: Phase<'b>,
 }
