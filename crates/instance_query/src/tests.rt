@@ -1,13 +1,15 @@
-//! Answers over a small ontology: teachers are persons, and who teaches is a teacher.
+//! Answers over a small ontology, by each set of facts: teachers are persons, and who teaches is a teacher.
 ghost use Rattle.std.specs.Prelude.{◌≡◌, ◌≤◌, IsTrue, IfOk, Contains};
 ghost use Rattle.dl_base.specs.Ontologies.{Knows};
 ghost use Rattle.dl_base.specs.declared.statements.Fact as fact_type;
 
 use crate::answers;
 use dl_base::{
-    Axiom, Basic, Fact, Kind, Name, Ontology, OutOfMemory, Pattern, PlainSet, RoleSide, Steps, Term,
+    Axiom, Basic, Fact, FactSet, Kind, Name, Ontology, OutOfMemory, Pattern, PlainSet, RoleSide,
+    Steps, Term, Versions,
 };
 use entail_guards::Entailers;
+use fact_index::Whole;
 use std::alloc::Global;
 use std::marker::Brand;
 use std::sync::ledger::{Blank, Ledger};
@@ -66,47 +68,59 @@ fn knows_all(ontology: &Ontology, facts: &[Fact]) -> bool
     true
 }
 
-fn counted<L: Ledger>(
+fn counted<S: FactSet, L: Ledger>(
     alloc: Global,
     entailers: &Entailers,
-    set: &PlainSet,
+    set: &S,
     pattern: &Pattern,
     blank: Blank,
 ) -> Result<Vec<Fact>, OutOfMemory>
     requires name { blank.name ≡ L.name }
     requires parts { blank.parts ≡ L.parts }
     requires one { blank.parts ≡ 1 }
-    requires known { (f : fact_type.Fact) → Contains set.now f → Knows entailers.now f }
+    requires known { (f : fact_type.Fact) → Contains (S.facts set.now) f → Knows entailers.now f }
 {
     let mut steps: Steps<L> = Steps::new(blank);
     answers(alloc, entailers, set, pattern, &mut steps)
 }
 
 /// The answers over these facts. `None` where the ontology doesn't know them.
-fn answered(alloc: Global, facts: Vec<Fact>, pattern: &Pattern) -> Result<Option<Vec<Fact>>, Fail> {
+fn answered<S: Versions + Drop>(
+    alloc: Global,
+    facts: Vec<Fact>,
+    pattern: &Pattern,
+) -> Result<Option<Vec<Fact>>, Fail> {
     let ontology = ontology(alloc)?;
     let entailers = entailers(alloc, &ontology)?;
-    let set = PlainSet::of(alloc, facts)?;
-    if !knows_all(&ontology, set.as_slice()) {
+    let set: S = Versions::of(alloc, facts)?;
+    let all = set.all(alloc)?;
+    if !knows_all(&ontology, all.as_slice()) {
         return Ok(None);
     }
-    let found = counted::<Brand>(alloc, &entailers, &set, pattern, Blank::new(1))?;
+    let found = counted::<S, Brand>(alloc, &entailers, &set, pattern, Blank::new(1))?;
     Ok(Some(found))
+}
+
+/// Who teaches one course, and a student.
+fn taught(alloc: Global) -> Result<Vec<Fact>, Fail> {
+    Ok(vec![in alloc;
+        Fact::Role(TEACHES, name(alloc, "ann")?, name(alloc, "cs1")?),
+        Fact::Class(STUDENT, name(alloc, "bob")?),
+    ]?)
 }
 
 // Who teaches is a person; a student isn't said to be one.
 #[test]
 fn a_superclass_is_answered_from_role_facts(rt: HostRuntime) -> Result<(), Fail> {
     let alloc = rt.alloc();
-    let facts = vec![in alloc;
-        Fact::Role(TEACHES, name(alloc, "ann")?, name(alloc, "cs1")?),
-        Fact::Class(STUDENT, name(alloc, "bob")?),
-    ]?;
-    let answers = answered(alloc, facts, &Pattern::Class(PERSON))?;
+    let plain = answered::<PlainSet>(alloc, taught(alloc)?, &Pattern::Class(PERSON))?;
+    let whole = answered::<Whole>(alloc, taught(alloc)?, &Pattern::Class(PERSON))?;
     let wanted = vec![in alloc; Fact::Class(PERSON, name(alloc, "ann")?)]?;
-    match answers {
-        Some(answers) => assert!(rt; answers.as_slice() == wanted.as_slice(), "{answers:?}"),
-        None => panic!(rt; "the facts aren't known"),
+    for answers in [&plain, &whole] {
+        match answers {
+            Some(answers) => assert!(rt; answers.as_slice() == wanted.as_slice(), "{answers:?}"),
+            None => panic!(rt; "the facts aren't known"),
+        }
     }
     Ok(())
 }

@@ -1,17 +1,21 @@
-ghost use Rattle.std.specs.Prelude.{Contains, IfOk, MatchOption};
+ghost use Rattle.std.specs.Prelude.{◌≡◌, Contains, IfNone, IfOk, IfSome, MatchOption};
 ghost use Rattle.dl_base.specs.Clash.{IsConsistent};
 ghost use Rattle.dl_base.specs.IllFormed.{NamesPair};
 ghost use Rattle.dl_base.specs.Ontologies.{Knows};
 ghost use Rattle.dl_base.specs.declared.statements.Fact as fact_type;
 ghost use Rattle.loading.specs.Loading.{Contradicts, Opens, Loads};
+ghost use Rattle.update_engine.specs.Judging.{IsClash};
 
 use crate::refusals::LoadRefusal;
-use dl_base::{Fact, Ontology, copies_of, once};
+use dl_base::{Fact, Ontology, OutOfMemory, Steps, copies_of, once};
 use dl_text::ReadRefusal;
+use fact_index::Index;
 use ntriples::read_facts;
 use std::alloc::Global;
+use std::marker::Brand;
 use std::sync::Arc;
-use update_engine::{Clash, Rules, first_clash};
+use std::sync::ledger::{Blank, Ledger};
+use update_engine::{Clash, Rules, first_clash_in};
 
 /// An ontology with its rules, facts that are consistent under it, and how many triples were skipped.
 #[derive(Drop)]
@@ -48,15 +52,49 @@ pub fn open(
 
 /// The refusal that names the facts that contradict the axioms. `None` where they are consistent.
 fn contradiction(alloc: Global, rules: &Rules, facts: &[Fact]) -> Option<LoadRefusal>
+    requires { (f : fact_type.Fact) → Contains facts.now f → Knows rules.now f }
     ensures { MatchOption result (IsConsistent rules.now.axioms facts.now) (Contradicts rules.now.axioms facts.now) }
 {
-    match first_clash(rules, facts) {
+    let Ok(found) = clash_by_index::<Brand>(alloc, rules, facts, Blank::new(1)) else {
+        return Some(LoadRefusal::OutOfMemory);
+    };
+    match found {
         None => None,
-        Some(Clash::Alone(place)) => match facts[place].copy(alloc) {
-            Ok(fact) => Some(LoadRefusal::Alone(fact)),
-            Err(_) => Some(LoadRefusal::OutOfMemory),
+        Some(clash) => Some(refusal_of(alloc, rules, facts, clash)),
+    }
+}
+
+/// The first clash of the facts, by look-ups in an index of them.
+fn clash_by_index<L: Ledger>(
+    alloc: Global,
+    rules: &Rules,
+    facts: &[Fact],
+    blank: Blank,
+) -> Result<Option<Clash>, OutOfMemory>
+    requires name { blank.name ≡ L.name }
+    requires parts { blank.parts ≡ L.parts }
+    requires one { blank.parts ≡ 1 }
+    requires known { (f : fact_type.Fact) → Contains facts.now f → Knows rules.now f }
+    ensures clash { IfOk result (λ clash. IfSome clash (IsClash rules.now.axioms facts.now)) }
+    ensures consistent { IfOk result (λ clash. IfNone clash (IsConsistent rules.now.axioms facts.now)) }
+{
+    let mut steps: Steps<L> = Steps::new(blank);
+    let index = Index::of(alloc, facts)?;
+    let clash = first_clash_in(alloc, rules, &index, facts, &mut steps)?;
+    Ok(clash)
+}
+
+/// The refusal that names the facts of the clash.
+fn refusal_of(alloc: Global, rules: &Rules, facts: &[Fact], clash: Clash) -> LoadRefusal
+    requires { IsClash rules.now.axioms facts.now clash }
+    ensures { Contradicts rules.now.axioms facts.now result }
+{
+    match clash {
+        Clash::Alone(place) => match facts[place].copy(alloc) {
+            Ok(fact) => LoadRefusal::Alone(fact),
+            Err(_) => LoadRefusal::OutOfMemory,
         },
-        Some(Clash::Pair(place, other)) => Some(pair(alloc, rules, facts, place, other)),
+        Clash::Pair(place, other) => pair(alloc, rules, facts, place, other),
     }
 }
 

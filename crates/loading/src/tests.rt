@@ -1,4 +1,5 @@
 mod opening;
+mod sets;
 mod texts;
 mod whole;
 

@@ -5,11 +5,9 @@ use Rattle.std.proofs.Math.Seq.{take-length}
 use Rattle.std.proofs.lemmas.List.Elements.{Contains-append_left, Contains-append_right, Contains-append_cases}
 use Rattle.dl_base.specs.declared.axioms.Axiom.{Axiom}
 use Rattle.dl_base.specs.declared.statements.Fact.{Fact}
-use Rattle.dl_base.specs.declared.patterns.Pattern.{Pattern}
 use Rattle.dl_base.specs.Clash.{IsConsistent, HasClash}
 use Rattle.dl_base.specs.Derivation.{InClosure, row_of}
 use Rattle.dl_base.specs.FactOrder.{AreSorted, fact_cmp}
-use Rattle.dl_base.specs.Patterns.{Matches}
 use Rattle.dl_base.specs.Picks.{Picks, Collects}
 use Rattle.dl_base.specs.Updates.{Lists, Meets, IsWellFormed, IsRemoved, IsPut}
 use Rattle.dl_base.proofs.Members.{here, there, alone, among}
@@ -19,20 +17,10 @@ use Rattle.dl_base.proofs.ClashLaws.{clash_along}
 use Rattle.dl_base.proofs.ClosureLaws.{derived_more, from_one, member_in_closure}
 use Rattle.dl_base.proofs.MeetingLaws.{meets_back}
 use Rattle.tbox_closure.proofs.LoopLaws.{take_on}
-use Rattle.entail_guards.specs.Asking.{IsAsked}
 use Rattle.dl_laws.proofs.Stepping.{step_updates, step_loses}
 use Rattle.update_engine.specs.declared.answers.Step.{Step}
-use Rattle.update_engine.specs.Stepping.{FoundAt, IsFound, FollowsFrom, IsStep}
+use Rattle.update_engine.specs.Stepping.{FollowsFrom, IsStep}
 use Rattle.update_engine.proofs.JudgeLaws.{at_place, same_at}
-
-pub found_step : (patterns : List Pattern) (facts : List Fact) (i : ℕ) (p : Pattern) (xs ys : List Fact) → i < length patterns → p ≡ get_or patterns i p
-    → Collects (FoundAt patterns facts) i xs → Lists (λ f. Contains facts f × Matches p f) ys → Collects (FoundAt patterns facts) (i + 1) (xs ++ ys)
-found_step patterns facts i p xs ys l e h k =
-    let at = at_place patterns i p l e in
-    collects_append (FoundAt patterns facts) i xs ys h (λ x. (
-      (λ m. let r = (k.each x).0 m in (p, at, r.0, r.1)),
-      λ r. (k.each x).1 (r.2, subst (λ z. Matches z x) (same_at patterns i r.0 p r.1 at) r.3),
-    ))
 
 pub follow_step : (axioms : List Axiom) (removed : List Fact) (i : ℕ) (g : Fact) (xs ys : List Fact) → i < length removed → g ≡ get_or removed i g
     → Collects (FollowsFrom axioms removed) i xs → Lists (InClosure axioms (g ∷ [])) ys → Collects (FollowsFrom axioms removed) (i + 1) (xs ++ ys)
@@ -43,19 +31,13 @@ follow_step axioms removed i g xs ys l e h k =
       λ r. (k.each x).1 (subst (λ z. InClosure axioms (z ∷ []) x) (same_at removed i r.0 g r.1 at) r.2),
     ))
 
-member_of : {X : Type 0} (xs : List X) (i : ℕ) (x : X) → slice_get xs i ≡ Some x → Contains xs x
+pub member_of : {X : Type 0} (xs : List X) (i : ℕ) (x : X) → slice_get xs i ≡ Some x → Contains xs x
 member_of [] i x e = cc
 member_of (y ∷ xs) zero x e = let same : y ≡ x = cc in subst (Contains (y ∷ xs)) same (here y xs)
 member_of (y ∷ xs) (suc i) x e = there y xs x (member_of xs i x e)
 
-place_in : {X : Type 0} (xs : List X) (x : X) → Contains xs x → (i : ℕ) × (i < length xs) × (slice_get xs i ≡ Some x)
+pub place_in : {X : Type 0} (xs : List X) (x : X) → Contains xs x → (i : ℕ) × (i < length xs) × (slice_get xs i ≡ Some x)
 place_in xs x (i, l, e) = (i, l, at_place xs i x l (sym e))
-
-pub found_all : (patterns : List Pattern) (facts xs : List Fact) → Collects (FoundAt patterns facts) (length patterns) xs → (f : Fact) → Contains xs f ↔ IsFound patterns facts f
-found_all patterns facts xs h f = (
-  (λ m. let r = (h f).0 m in (r.2.2, (r.2.0, member_of patterns r.0 r.2.0 r.2.1, r.2.3))),
-  λ k. let p = place_in patterns k.1.0 k.1.1 in (h f).1 (p.0, p.1, (k.1.0, p.2, k.0, k.1.2)),
-)
 
 pub follow_all : (axioms : List Axiom) (removed xs : List Fact) → Collects (FollowsFrom axioms removed) (length removed) xs → (f : Fact) → Contains xs f ↔ ((g : Fact) × Contains removed g × InClosure axioms (g ∷ []) f)
 follow_all axioms removed xs h f = (
@@ -88,27 +70,6 @@ module _ (axioms : List Axiom) (old inserts deletes : List Fact) (consistent : I
   -- what consistent facts entail has no clash of its own
   pub entailed_alone : (f : Fact) → InClosure axioms old f → ¬ HasClash axioms (f ∷ [])
   entailed_alone f h clash = consistent (clash_along axioms (f ∷ []) old (λ g m. subst (InClosure axioms old) (alone f g m) h) clash)
-
-  module _ (held : List Fact) (patterns view : List Pattern) (lists : Lists (IsFound view old) held) where
-    pub held_within : (f : Fact) → Contains held f → Contains old f
-    held_within f m = ((lists.each f).0 m).0
-
-    -- the facts found have all that are to be removed
-    pub held_removed : view ≡ patterns → ((f : Fact) → Contains old f → ¬ HasClash axioms (f ∷ []) → Meets axioms inserts deletes f → IsAsked patterns f)
-        → (f : Fact) → IsRemoved axioms old inserts deletes f → Contains held f
-    held_removed e asks f h =
-        (lists.each f).1 (h.0, subst (λ (ps : List Pattern). IsAsked ps f) (sym e) (asks f h.0 (entailed_alone f (member_in_closure axioms old f h.0)) h.1))
-
-  module _ (held gone : List Fact) (sorted : AreSorted held) (within : (f : Fact) → Contains held f → Contains old f)
-      (all : (f : Fact) → IsRemoved axioms old inserts deletes f → Contains held f) (picked : Picks (Meets axioms inserts deletes) held gone) where
-    pub gone_is : Lists (IsRemoved axioms old inserts deletes) gone
-    gone_is = record {
-      sorted = picks_sorted (Meets axioms inserts deletes) fact_cmp held gone picked sorted;
-      each = λ f. (
-        (λ m. let r = from_picks (Meets axioms inserts deletes) held gone f picked m in (within f r.0, r.1)),
-        λ h. into_picks (Meets axioms inserts deletes) held gone f picked (all f h) h.1,
-      );
-    }
 
   module _ (gone entailed : List Fact) (removes : Lists (IsRemoved axioms old inserts deletes) gone) (sorted : AreSorted entailed)
       (follows : (f : Fact) → Contains entailed f ↔ ((g : Fact) × Contains gone g × InClosure axioms (g ∷ []) f)) where

@@ -1,20 +1,35 @@
--- Which facts the patterns of a request ask for.
-use Rattle.std.specs.Prelude.{List, ◌∷◌, [], Contains}
+-- Which facts the patterns of a request ask for, and how many patterns there are.
+use Rattle.std.specs.Prelude.{◌↔◌, ◌≤◌, ◌*◌, ℕ, List, ◌∷◌, [], Contains, length}
+use Rattle.dl_base.specs.declared.axioms.Axiom.{Axiom}
 use Rattle.dl_base.specs.declared.patterns.Pattern.{Pattern}
 use Rattle.dl_base.specs.declared.statements.Fact.{Fact}
 use Rattle.dl_base.specs.Clash.{HasClash}
 use Rattle.dl_base.specs.Derivation.{InClosure}
 use Rattle.dl_base.specs.Ontologies.{Theory, Knows}
+use Rattle.conflict_rules.specs.Counts.{naming}
 use Rattle.entail_guards.specs.Asking.{IsAsked}
 
--- f is known, has no clash of its own, and clashes with the insertion
-abbrev pub ClashesBeside : Theory → Fact → Fact → Type 0
-ClashesBeside theory insertion f = Knows theory f × (¬ HasClash theory.axioms (f ∷ [])) × HasClash theory.axioms (f ∷ insertion ∷ [])
+-- f is known, and has no clash of its own
+abbrev pub IsSound : Theory → Fact → Type 0
+IsSound theory f = Knows theory f × ¬ HasClash theory.axioms (f ∷ [])
 
--- f is known, and entails the deletion
-abbrev pub Entails : Theory → Fact → Fact → Type 0
-Entails theory deletion f = Knows theory f × InClosure theory.axioms (f ∷ []) deletion
+-- f clashes with the insertion
+abbrev pub ClashesBeside : List Axiom → Fact → Fact → Type 0
+ClashesBeside axioms insertion f = HasClash axioms (f ∷ insertion ∷ [])
 
--- the patterns ask for each fact that stands so to a fact of the list
-abbrev pub AskForAll : (Fact → Fact → Type 0) → List Fact → List Pattern → Type 0
-AskForAll R facts patterns = (x f : Fact) → Contains facts x → R x f → IsAsked patterns f
+-- f entails the deletion
+abbrev pub Entails : List Axiom → Fact → Fact → Type 0
+Entails axioms deletion f = InClosure axioms (f ∷ []) deletion
+
+-- of the sound facts, the patterns ask for those that stand so to a fact of the list, and for no others
+abbrev pub AskFor : Theory → (Fact → Fact → Type 0) → List Fact → List Pattern → Type 0
+AskFor theory R facts patterns = (f : Fact) → IsSound theory f → IsAsked patterns f ↔ ((x : Fact) × Contains facts x × R x f)
+
+-- the patterns for so many facts: for each of these at most eight that name a term, and eight for each of the terms
+pub record AreFew (terms count : ℕ) (patterns : List Pattern) : Type 0 where
+  pub few : (n : ℕ) → naming n patterns ≤ 8 * count
+  pub size : length patterns ≤ 8 * terms * count
+
+-- one of the facts clashes with the given one
+abbrev pub HasPartner : List Axiom → List Fact → Fact → Type 0
+HasPartner axioms facts given = (f : Fact) × Contains facts f × ClashesBeside axioms given f

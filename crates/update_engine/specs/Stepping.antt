@@ -2,23 +2,13 @@
 use Rattle.std.specs.Prelude.{◌≡◌, ◌↔◌, ℕ, List, Some, slice_get, ◌∷◌, [], Contains}
 use Rattle.dl_base.specs.declared.axioms.Axiom.{Axiom}
 use Rattle.dl_base.specs.declared.statements.Fact.{Fact}
-use Rattle.dl_base.specs.declared.patterns.Pattern.{Pattern}
 use Rattle.dl_base.specs.Clash.{IsConsistent}
 use Rattle.dl_base.specs.Derivation.{InClosure}
-use Rattle.dl_base.specs.Patterns.{Matches}
 use Rattle.dl_base.specs.Updates.{IsWellFormed, Lists, IsRemoved, IsPut, IsStored, IsLost, Updates}
 use Rattle.update_engine.specs.declared.answers.Step.{Step}
 use Rattle.update_engine.specs.declared.answers.StepRefusal.{StepRefusal}
 use Rattle.update_engine.specs.declared.answers.StepRefusal.TheVariants as refusal
 use Rattle.update_engine.specs.Judging.{IsNamed}
-
--- f is held and matches the pattern at k
-abbrev pub FoundAt : List Pattern → List Fact → ℕ → Fact → Type 0
-FoundAt patterns facts k f = (p : Pattern) × (slice_get patterns k ≡ Some p) × Contains facts f × Matches p f
-
--- f is held and matches one of the patterns
-abbrev pub IsFound : List Pattern → List Fact → Fact → Type 0
-IsFound patterns facts f = Contains facts f × ((p : Pattern) × Contains patterns p × Matches p f)
 
 -- f is entailed by the removed fact at k
 abbrev pub FollowsFrom : List Axiom → List Fact → ℕ → Fact → Type 0

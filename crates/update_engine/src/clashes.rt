@@ -29,7 +29,7 @@ pub fn first_clash(rules: &Rules, facts: &[Fact]) -> Option<Clash>
 }
 
 /// The first fact that clashes by itself.
-fn first_alone(rules: &Rules, facts: &[Fact]) -> Option<usize>
+pub fn first_alone(rules: &Rules, facts: &[Fact]) -> Option<usize>
     ensures some { IfSome result (NamesAlone rules.now.axioms facts.now) }
     ensures none { result ≡ None → NoneAlone rules.now.axioms facts.now }
 {
@@ -56,7 +56,7 @@ fn first_pair(rules: &Rules, facts: &[Fact]) -> Option<(usize, usize)>
 }
 
 /// The first later fact that clashes with the one at this place.
-fn first_partner(rules: &Rules, facts: &[Fact], place: usize) -> Option<usize>
+pub fn first_partner(rules: &Rules, facts: &[Fact], place: usize) -> Option<usize>
     requires alone { NoneAlone rules.now.axioms facts.now }
     requires within { place < length facts.now }
     ensures some { IfSome result (IsPartner rules.now.axioms facts.now place) }

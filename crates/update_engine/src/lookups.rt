@@ -1,26 +1,52 @@
-ghost use Rattle.std.specs.Prelude.{◌≡◌, ◌↔◌, ◌∷◌, [], IfOk};
-ghost use Rattle.dl_base.specs.Clash.{HasClash};
+ghost use Rattle.std.specs.Prelude.{◌≡◌, ◌≤◌, ◌+◌, ◌↔◌, ◌∷◌, [], List, IfOk, Contains, length};
+ghost use Rattle.dl_base.specs.Clash.{HasClash, IsConsistent};
 ghost use Rattle.dl_base.specs.Ontologies.{Knows};
 ghost use Rattle.dl_base.specs.Patterns.{Matches};
-ghost use Rattle.dl_base.specs.Updates.{IsWellFormed, Meets};
+ghost use Rattle.dl_base.specs.Updates.{IsWellFormed, IsRemoved, Lists, Meets};
 ghost use Rattle.dl_base.specs.declared.statements.Fact as fact_type;
 ghost use Rattle.entail_guards.specs.Asking.{IsAsked};
-ghost use Rattle.update_engine.specs.Lookups.{ClashesBeside, Entails, AskForAll};
+ghost use Rattle.update_engine.specs.Counting.{most_to_find};
+ghost use Rattle.update_engine.specs.Lookups.{IsSound, ClashesBeside, Entails, AskFor, AreFew};
 
 use crate::rules::Rules;
-use dl_base::{Fact, OutOfMemory, Pattern};
+use dl_base::{Fact, FactSet, OutOfMemory, Pattern, Steps};
+use guard_eval::found;
 use std::alloc::Global;
+use std::sync::ledger::Ledger;
 
-/// Patterns that ask for all facts that meet the request.
-pub fn meeting_patterns(
+/// The facts of the set that meet the request, in order: the set is looked up by the guards of each insertion and the entailers of each
+/// deletion.
+pub fn meeting_facts<S: FactSet, L: Ledger>(
+    alloc: Global,
+    rules: &Rules,
+    set: &S,
+    inserts: &[Fact],
+    deletes: &[Fact],
+    steps: &mut Steps<L>,
+) -> Result<Vec<Fact>, OutOfMemory>
+    requires well { IsWellFormed rules.now.axioms inserts.now deletes.now }
+    requires consistent { IsConsistent rules.now.axioms (S.facts set.now) }
+    requires known { (f : fact_type.Fact) → Contains (S.facts set.now) f → Knows rules.now f }
+    ensures met { IfOk result (λ met. Lists (IsRemoved rules.now.axioms (S.facts set.now) inserts.now deletes.now) met.items) }
+    ensures counted { (met : List fact_type.Fact) → Lists (IsRemoved rules.now.axioms (S.facts set.now) inserts.now deletes.now) met
+        → steps.new ≤ steps.old + most_to_find (length rules.now.terms) (length inserts.now + length deletes.now) (length met) }
+{
+    let patterns = meeting_patterns(alloc, rules, inserts, deletes)?;
+    let met = found(alloc, patterns.as_slice(), set, steps)?;
+    Ok(met)
+}
+
+/// Patterns that ask for the facts that meet the request.
+fn meeting_patterns(
     alloc: Global,
     rules: &Rules,
     inserts: &[Fact],
     deletes: &[Fact],
 ) -> Result<Vec<Pattern>, OutOfMemory>
     requires { IsWellFormed rules.now.axioms inserts.now deletes.now }
-    ensures { IfOk result (λ patterns. (f : fact_type.Fact) → Knows rules.now f → ¬ HasClash rules.now.axioms (f ∷ [])
-        → Meets rules.now.axioms inserts.now deletes.now f → IsAsked patterns.items f) }
+    ensures asks { IfOk result (λ patterns. (f : fact_type.Fact) → IsSound rules.now f
+        → IsAsked patterns.items f ↔ Meets rules.now.axioms inserts.now deletes.now f) }
+    ensures few { IfOk result (λ patterns. AreFew (length rules.now.terms) (length inserts.now + length deletes.now) patterns.items) }
 {
     let mut patterns = clashing_patterns(alloc, rules, inserts)?;
     patterns.append(&mut entailing_patterns(alloc, rules, deletes)?)?;
@@ -33,7 +59,8 @@ fn clashing_patterns(
     inserts: &[Fact],
 ) -> Result<Vec<Pattern>, OutOfMemory>
     requires { ¬ HasClash rules.now.axioms inserts.now }
-    ensures { IfOk result (λ patterns. AskForAll (ClashesBeside rules.now) inserts.now patterns.items) }
+    ensures asks { IfOk result (λ patterns. AskFor rules.now (ClashesBeside rules.now.axioms) inserts.now patterns.items) }
+    ensures few { IfOk result (λ patterns. AreFew (length rules.now.terms) (length inserts.now) patterns.items) }
 {
     let mut patterns = Vec::new(alloc);
     for inserted in inserts {
@@ -47,7 +74,8 @@ fn entailing_patterns(
     rules: &Rules,
     deletes: &[Fact],
 ) -> Result<Vec<Pattern>, OutOfMemory>
-    ensures { IfOk result (λ patterns. AskForAll (Entails rules.now) deletes.now patterns.items) }
+    ensures asks { IfOk result (λ patterns. AskFor rules.now (Entails rules.now.axioms) deletes.now patterns.items) }
+    ensures few { IfOk result (λ patterns. AreFew (length rules.now.terms) (length deletes.now) patterns.items) }
 {
     let mut patterns = Vec::new(alloc);
     for deleted in deletes {
@@ -56,16 +84,19 @@ fn entailing_patterns(
     Ok(patterns)
 }
 
-fn guards_of(alloc: Global, rules: &Rules, given: &Fact) -> Result<Vec<Pattern>, OutOfMemory>
+/// Patterns that ask for the facts that clash with the given one.
+pub fn guards_of(alloc: Global, rules: &Rules, given: &Fact) -> Result<Vec<Pattern>, OutOfMemory>
     requires { ¬ HasClash rules.now.axioms (given.now ∷ []) }
-    ensures { IfOk result (λ patterns. (f : fact_type.Fact) → ClashesBeside rules.now given.now f → IsAsked patterns.items f) }
+    ensures asks { IfOk result (λ patterns. (f : fact_type.Fact) → IsSound rules.now f → IsAsked patterns.items f ↔ ClashesBeside rules.now.axioms given.now f) }
+    ensures few { IfOk result (λ patterns. AreFew (length rules.now.terms) 1 patterns.items) }
 {
     let patterns = rules.conflicts().guards_of(alloc, given)?;
     Ok(patterns)
 }
 
 fn entailers_of(alloc: Global, rules: &Rules, given: &Fact) -> Result<Vec<Pattern>, OutOfMemory>
-    ensures { IfOk result (λ patterns. (f : fact_type.Fact) → Entails rules.now given.now f → IsAsked patterns.items f) }
+    ensures asks { IfOk result (λ patterns. (f : fact_type.Fact) → IsSound rules.now f → IsAsked patterns.items f ↔ Entails rules.now.axioms given.now f) }
+    ensures few { IfOk result (λ patterns. AreFew (length rules.now.terms) 1 patterns.items) }
 {
     let pattern = only(alloc, given)?;
     let patterns = rules.entailers().entailers(alloc, &pattern)?;

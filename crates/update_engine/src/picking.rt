@@ -1,45 +1,16 @@
-ghost use Rattle.std.specs.Prelude.{◌≡◌, ◌+◌, ◌↔◌, ◌⊎◌, ◌∷◌, [], IfOk, Contains, length};
+ghost use Rattle.std.specs.Prelude.{◌≡◌, ◌≤◌, ◌+◌, ◌*◌, ◌↔◌, ◌⊎◌, ◌∷◌, [], IfOk, Contains, length};
 ghost use Rattle.dl_base.specs.Clash.{HasClash};
 ghost use Rattle.dl_base.specs.Ontologies.{Knows};
 ghost use Rattle.dl_base.specs.Picks.{Collects, Picks};
-ghost use Rattle.dl_base.specs.Updates.{IsWellFormed, Lists, Meets};
+ghost use Rattle.dl_base.specs.Updates.{IsWellFormed, Meets};
 ghost use Rattle.dl_base.specs.declared.statements.Fact as fact_type;
-ghost use Rattle.update_engine.specs.Stepping.{FoundAt, IsFound, FollowsFrom};
+ghost use Rattle.update_engine.specs.Stepping.{FollowsFrom};
 
 use crate::meeting::meets;
 use crate::rules::Rules;
-use dl_base::{Fact, FactSet, OutOfMemory, Pattern, Steps, sorted_once};
+use dl_base::{Fact, FactSet, OutOfMemory, Steps};
 use std::alloc::Global;
 use std::sync::ledger::Ledger;
-
-/// The facts of the set that match one of the patterns, in order.
-pub fn found<S: FactSet, L: Ledger>(
-    alloc: Global,
-    patterns: &[Pattern],
-    set: &S,
-    steps: &mut Steps<L>,
-) -> Result<Vec<Fact>, OutOfMemory>
-    ensures { IfOk result (λ facts. Lists (IsFound patterns.now (S.facts set.now)) facts.items) }
-{
-    let facts = find_all(alloc, patterns, set, steps)?;
-    Ok(sorted_once(facts)?)
-}
-
-fn find_all<S: FactSet, L: Ledger>(
-    alloc: Global,
-    patterns: &[Pattern],
-    set: &S,
-    steps: &mut Steps<L>,
-) -> Result<Vec<Fact>, OutOfMemory>
-    ensures found { IfOk result (λ facts. Collects (FoundAt patterns.now (S.facts set.now)) (length patterns.now) facts.items) }
-    ensures counted { IfOk result (λ facts. steps.new ≡ steps.old + length patterns.now + length facts.items) }
-{
-    let mut facts = Vec::new(alloc);
-    for pattern in patterns {
-        facts.append(&mut set.find(alloc, pattern, steps)?)?;
-    }
-    Ok(facts)
-}
 
 /// The facts that meet the request.
 pub fn meeting(
@@ -83,7 +54,7 @@ pub fn staying(
     Ok(picked)
 }
 
-/// The facts that the set doesn't have.
+/// The facts that the set doesn't have. One step for each of the facts.
 pub fn unheld<S: FactSet, L: Ledger>(
     alloc: Global,
     set: &S,
@@ -91,7 +62,7 @@ pub fn unheld<S: FactSet, L: Ledger>(
     steps: &mut Steps<L>,
 ) -> Result<Vec<Fact>, OutOfMemory>
     ensures picked { IfOk result (λ picked. Picks (λ f. ¬ Contains (S.facts set.now) f) facts.now picked.items) }
-    ensures counted { IfOk result (λ picked. steps.new ≡ steps.old + length facts.now) }
+    ensures counted { steps.new ≤ steps.old + length facts.now }
 {
     let mut picked = Vec::new(alloc);
     for fact in facts {
@@ -105,7 +76,8 @@ pub fn unheld<S: FactSet, L: Ledger>(
 /// What the removed facts entail.
 pub fn followers(alloc: Global, rules: &Rules, removed: &[Fact]) -> Result<Vec<Fact>, OutOfMemory>
     requires { (f : fact_type.Fact) → Contains removed.now f → Knows rules.now f }
-    ensures { IfOk result (λ facts. Collects (FollowsFrom rules.now.axioms removed.now) (length removed.now) facts.items) }
+    ensures follows { IfOk result (λ facts. Collects (FollowsFrom rules.now.axioms removed.now) (length removed.now) facts.items) }
+    ensures few { IfOk result (λ facts. length facts.items ≤ 2 * length rules.now.terms * length removed.now) }
 {
     let mut facts = Vec::new(alloc);
     for fact in removed {

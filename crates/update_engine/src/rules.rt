@@ -1,4 +1,4 @@
-ghost use Rattle.std.specs.Prelude.{◌≡◌, ◌↔◌, ◌∷◌, [], IsTrue, IfOk, Contains};
+ghost use Rattle.std.specs.Prelude.{◌≡◌, ◌≤◌, ◌*◌, ◌↔◌, ◌∷◌, [], IsTrue, IfOk, Contains, length};
 ghost use Rattle.dl_base.specs.Clash.{HasClash};
 ghost use Rattle.dl_base.specs.Derivation.{InClosure};
 ghost use Rattle.dl_base.specs.Ontologies.{Knows};
@@ -109,7 +109,8 @@ impl Rules {
 
     pub(crate) fn follows(&self, alloc: Global, given: &Fact) -> Result<Vec<Fact>, OutOfMemory>
         requires { Knows self.now given.now }
-        ensures { IfOk result (λ facts. Lists (InClosure self.now.axioms (given.now ∷ [])) facts.items) }
+        ensures ok { IfOk result (λ facts. Lists (InClosure self.now.axioms (given.now ∷ [])) facts.items) }
+        ensures few { IfOk result (λ facts. length facts.items ≤ 2 * length self.now.terms) }
     {
         let facts = self.entailers().follows(alloc, given)?;
         Ok(facts)

@@ -7,7 +7,7 @@ use std::test::Fail;
 use update_engine::Rules;
 
 /// A fact: its term, its subject, and its object, which a class fact leaves empty and which is a string for an attribute.
-type Line = (u32, &'static str, &'static str);
+pub type Line = (u32, &'static str, &'static str);
 
 // Neither sorted nor without repeats.
 #[test]
@@ -87,7 +87,7 @@ fn answer(
     Ok(open(alloc, ontology, facts, 3))
 }
 
-fn facts(alloc: Global, lines: &[Line]) -> Result<Vec<Fact>, OutOfMemory> {
+pub fn facts(alloc: Global, lines: &[Line]) -> Result<Vec<Fact>, OutOfMemory> {
     let mut facts = Vec::new(alloc);
     for line in lines {
         facts.push(fact(alloc, *line)?)?;

@@ -14,7 +14,7 @@ pub loop-fact-preserved : goal.loop-fact-preserved
 loop-fact-preserved c =
     let within : c.loop-fact.fact-index < length c.args.facts.now = omega arith in
     rw c.in_ok-append.ensures.items
-    (follows_next c.args.entailers.now.axioms c.args.facts.now c.loop-fact.fact-index c.fact-item.result c.loop-fact.entailed.items _ within c.fact-item.is c.in_ok-more.ensures c.loop-fact.invariant)
+    (follows_next c.args.entailers.now.axioms c.args.facts.now c.loop-fact.fact-index c.fact-item.result c.loop-fact.entailed.items _ within c.fact-item.is c.in_ok-more.ensures.ok c.loop-fact.invariant)
 
 pub returns : goal.returns
 returns c = follows_end c.args.entailers.now.axioms c.args.facts.now c.loop-fact.fact-index c.loop-fact.entailed.items c.loop-fact-test.false c.loop-fact.invariant

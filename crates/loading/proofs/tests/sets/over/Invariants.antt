@@ -1,0 +1,4 @@
+use Rattle.loading.proofs.tests.sets.over.Given as goal
+
+abbrev pub ghosts-counted : goal.ghosts-counted
+ghosts-counted g a = record { name = a.blank.name; parts = a.blank.parts }
