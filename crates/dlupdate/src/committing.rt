@@ -3,13 +3,14 @@ ghost use Rattle.dl_base.specs.Ontologies.{Theory, Knows};
 ghost use Rattle.dl_base.specs.declared.statements.Fact as fact_type;
 ghost use Rattle.dlupdate.specs.Committing.{StandsAt, Commits};
 
-use dl_base::{Facts, OutOfMemory, PlainSet};
+use dl_base::{Facts, OutOfMemory};
+use fact_index::Whole;
 use transaction::{Event, Reply, World};
 use update_engine::IllFormed;
 
 /// Takes one update as a transaction of one change, and commits it: the facts that it lost, or how it contradicts itself.
 pub fn committed(
-    world: &mut World<PlainSet>,
+    world: &mut World<Whole>,
     inserts: Facts,
     deletes: Facts,
 ) -> Result<Result<Facts, IllFormed>, OutOfMemory>

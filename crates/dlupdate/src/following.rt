@@ -12,8 +12,9 @@ use crate::committing::committed;
 use crate::files::update_in;
 use crate::reports::{Report, Stop};
 use crate::texts::{ill_formed_text, push_number, push_stored, updated_text};
-use dl_base::{Ontology, OutOfMemory, PlainSet};
+use dl_base::{Ontology, OutOfMemory, Versions};
 use dl_io::Files;
+use fact_index::Whole;
 use loading::Opened;
 use std::alloc::Global;
 use transaction::World;
@@ -43,7 +44,7 @@ pub fn followed<F: Files>(
         facts,
         skipped: _,
     } = opened;
-    let mut world: World<PlainSet> = World::start(alloc, rules, facts, MOST_ENTRIES)?;
+    let mut world: World<Whole> = World::start(alloc, rules, facts, MOST_ENTRIES)?;
     let mut text = Vec::new(alloc);
     for (number, name) in updates.iter().enumerate() {
         match part(
@@ -60,7 +61,8 @@ pub fn followed<F: Files>(
             Err(Stop::OutOfMemory) => return Err(Stop::OutOfMemory),
         }
     }
-    push_stored(alloc, &mut text, &ontology, world.version().as_slice())?;
+    let stored = world.version().all(alloc)?;
+    push_stored(alloc, &mut text, &ontology, stored.as_slice())?;
     Ok(Report { status: 0, text })
 }
 
@@ -81,7 +83,7 @@ fn part<F: Files>(
     alloc: Global,
     files: &mut F,
     ontology: &Ontology,
-    world: &mut World<PlainSet>,
+    world: &mut World<Whole>,
     number: usize,
     name: &str,
     numbered: bool,

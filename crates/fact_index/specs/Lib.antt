@@ -1,4 +1,4 @@
 pub mod Links
 pub mod Numbers
 pub mod Looking
-pub mod Applying
+pub mod Keeping

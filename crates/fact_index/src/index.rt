@@ -54,6 +54,19 @@ impl Index {
         }
     }
 
+    /// An index of the facts.
+    pub fn of(alloc: Global, facts: &[Fact]) -> Result<Index, OutOfMemory>
+        ensures same { IfOk result (λ index. (f : fact_type.Fact) → Contains index f ↔ Contains facts.now f) }
+        ensures sorted { IfOk result (λ index. AreSorted index) }
+    {
+        let mut index = Index::new(alloc);
+        for fact in facts {
+            index.take_in(fact)?;
+        }
+        let _count = index.len();
+        Ok(index)
+    }
+
     /// Takes the fact in; true exactly where it wasn't held. Where memory is refused the fact comes back.
     pub fn insert(&mut self, fact: Fact) -> Result<bool, Refused>
         ensures added { IfOk result (λ added. IsTrue added ↔ ¬ Contains self.old fact) }

@@ -7,6 +7,7 @@ mod numbers;
 mod places;
 #[cfg(test)]
 mod samples;
+mod shared;
 #[cfg(test)]
 mod tests;
 mod whole;

@@ -4,7 +4,9 @@ ghost use Rattle.dl_base.specs.Changing.{added, removed};
 
 use crate::samples::{ASKED, LINES, Line, fact, facts, pattern};
 use crate::{Index, Refused, Whole};
-use dl_base::{Changed, Fact, FactSet, OutOfMemory, Pattern, PlainSet, Steps, Versions, is_among};
+use dl_base::{
+    Changed, Fact, FactSet, Name, OutOfMemory, Pattern, PlainSet, Steps, Term, Versions, is_among,
+};
 use std::alloc::Global;
 use std::marker::Brand;
 use std::sync::ledger::{Blank, Ledger};
@@ -173,6 +175,43 @@ fn a_whole_is_changed_as_a_plain_set(rt: HostRuntime) -> Result<(), Fail> {
     let (wanted, count) = changed_lines::<PlainSet>(alloc)?;
     let (found, number) = changed_lines::<Whole>(alloc)?;
     assert_eq!(rt; (count, number), (8, 8));
+    assert!(rt; found.as_slice() == wanted.as_slice());
+    Ok(())
+}
+
+/// How often a set is changed until a shared index is made anew.
+const OFTEN: usize = 520;
+
+/// The fact that one is in the class, whose name has this letter and number.
+fn numbered(alloc: Global, letter: &str, number: usize) -> Result<Fact, OutOfMemory> {
+    let text = format!(in alloc; "{letter}{number}")?;
+    Ok(Fact::Class(Term(0), Name::of(alloc, text.as_bytes())?))
+}
+
+/// The facts of a set in which one fact came and one of the first facts went, more often than a shared index takes beside itself.
+fn often_changed<S: Versions + Drop>(alloc: Global) -> Result<Vec<Fact>, OutOfMemory> {
+    let mut facts = Vec::new(alloc);
+    for number in 0..OFTEN + 1 {
+        facts.push(numbered(alloc, "a", number)?)?;
+    }
+    let mut set: S = Versions::of(alloc, facts)?;
+    for number in 0..OFTEN {
+        let comes = numbered(alloc, "b", number)?;
+        let goes = numbered(alloc, "a", number)?;
+        match changed(alloc, &set, &comes, &goes)? {
+            Some(next) => set = next,
+            None => return Err(OutOfMemory),
+        }
+    }
+    Ok(set.all(alloc)?)
+}
+
+#[test]
+fn a_whole_is_changed_often(rt: HostRuntime) -> Result<(), Fail> {
+    let alloc = rt.alloc();
+    let wanted = often_changed::<PlainSet>(alloc)?;
+    let found = often_changed::<Whole>(alloc)?;
+    assert_eq!(rt; found.len(), OFTEN + 1);
     assert!(rt; found.as_slice() == wanted.as_slice());
     Ok(())
 }

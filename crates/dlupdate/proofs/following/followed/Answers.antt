@@ -50,4 +50,4 @@ pub returns-clause-ok : goal.returns-clause-ok
 returns-clause-ok g c =
     let past : length c.args.updates.now ≤ c.loop-number.number = omega arith in
     ends_at (g.F.Files.contents c.args.files.now) c.args.opened.ontology (head_of c.args.numbered) c.args.opened.facts.items (words_of c.args.updates.now) c.loop-number.world c.loop-number.number c.loop-number.text.items c.loop-number.invariant.0 c.version.result.now (record { status = 0; text = c.push_stored.new.text }) (no_name c.args.updates.now c.loop-number.number past) c.version.ensures.stands refl
-    (c.in_ok-push_stored.ensures ∙ ap (λ (v : List Fact). c.loop-number.text.items ++ text.stored c.args.opened.ontology v) c.as_slice-2.ensures.same)
+    (c.in_ok-push_stored.ensures ∙ ap (λ (v : List Fact). c.loop-number.text.items ++ text.stored c.args.opened.ontology v) (c.as_slice-2.ensures.value ∙ c.in_ok-stored.ensures.all))
