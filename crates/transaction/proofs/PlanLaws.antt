@@ -1,5 +1,5 @@
 -- From a step to the plan that a transaction keeps.
-use Rattle.std.proofs.Common.{◌≡◌, ◌↔◌, ◌⊎◌, ◌++◌, List, map, sym, subst, inl, inr, ⊎_elim}
+use Rattle.std.proofs.Common.{◌≡◌, ◌↔◌, ◌⊎◌, ◌++◌, List, sym, subst, inl, inr, ⊎_elim}
 use Rattle.std.specs.Prelude.{All, Contains, IfOk, Result, Ok, Err}
 use Rattle.std.proofs.lemmas.List.Elements.{Contains-append_left, Contains-append_right, Contains-append_cases}
 use Rattle.dl_base.specs.declared.axioms.Axiom.{Axiom}

@@ -1,5 +1,5 @@
 -- What the core's events do, over plain values.
-use Rattle.std.proofs.Common.{◌≡◌, ◌≢◌, ◌↔◌, ℕ, ◌<◌, ◌≤◌, ◌+◌, List, [], ◌∷◌, ◌++◌, Option, Some, None, length, map, refl, sym, ◌∙◌, ap, subst, inl, inr, ⊎_elim, arith}
+use Rattle.std.proofs.Common.{◌≡◌, ◌≢◌, ◌↔◌, ℕ, ◌<◌, ◌≤◌, ◌+◌, List, [], ◌∷◌, ◌++◌, Option, Some, None, length, refl, sym, ◌∙◌, ap, subst, arith}
 use Rattle.std.specs.Prelude.{All, Contains, take}
 use Rattle.std.specs.Arc.{arc_value}
 use Rattle.std.specs.Option.{option_map}
@@ -7,23 +7,20 @@ use Rattle.std.proofs.Math.Seq.{take-length}
 use Rattle.std.proofs.lemmas.List.{length-append}
 use Rattle.dl_base.specs.Validity.{IsOntology}
 use Rattle.dl_base.proofs.ClashLaws.{clash_more}
-use Rattle.dl_base.proofs.SortedLaws.{all_of}
 use Rattle.std.proofs.lemmas.List.Elements.{All-cons, All-nil}
 use Rattle.std.proofs.lemmas.Option.{same_Some}
 use Rattle.dl_base.specs.declared.statements.Fact.{Fact}
 use Rattle.dl_base.specs.declared.requests.Changed.{Changed}
 use Rattle.dl_base.specs.declared.requests.Entry.{Entry}
-use Rattle.dl_base.specs.declared.requests.Request.{Request}
-use Rattle.dl_base.specs.declared.requests.Request.TheVariants.{Change, Ask}
+use Rattle.dl_base.specs.declared.requests.Request.TheVariants.{Change}
 use Rattle.dl_base.specs.Clash.{IsConsistent}
 use Rattle.dl_base.specs.Commits.{Outcome, IsOutcome, IsCommit}
 use Rattle.dl_base.specs.Commits as outcome
 use Rattle.dl_base.specs.FactOrder.{AreSorted}
-use Rattle.dl_base.specs.Histories.{IsVersion, IsLegal, HasChange, in_force, in_force_at, own, replacement, or_before}
+use Rattle.dl_base.specs.Histories.{IsVersion, HasChange, in_force, in_force_at, own, replacement, or_before}
 use Rattle.dl_base.specs.Ontologies.{Theory, Knows, KnowsRequest}
-use Rattle.dl_base.specs.Staleness.{IsStale}
 use Rattle.dl_base.specs.Transactions.{Runs, done, then, Serves, IsAfter, IsChange, IsWell}
-use Rattle.dl_base.specs.Updates.{Lists, IsStored, IsLost, IsWellFormed}
+use Rattle.dl_base.specs.Updates.{Lists, IsLost, IsWellFormed}
 use Rattle.dl_base.proofs.CommitLaws.{legal_after_commit}
 use Rattle.dl_base.proofs.HistoryLaws.{in_force_last, legal_is_consistent}
 use Rattle.dl_base.proofs.VersionLaws.{in_order}

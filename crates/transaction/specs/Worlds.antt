@@ -1,5 +1,5 @@
 -- What contracts see of the core, and what an event does to it.
-use Rattle.std.specs.Prelude.{◌≡◌, ◌≢◌, ℕ, ◌≤◌, Bool, List, [], ◌∷◌, ◌++◌, All, Contains, length, filter, not, nat_eq, take}
+use Rattle.std.specs.Prelude.{◌≡◌, ◌≢◌, ℕ, List, [], ◌∷◌, ◌++◌, All, Contains, length, filter, not, nat_eq, take}
 use Rattle.dl_base.specs.declared.statements.Fact.{Fact}
 use Rattle.dl_base.specs.declared.requests.Entry.{Entry}
 use Rattle.dl_base.specs.declared.requests.Request.{Request}

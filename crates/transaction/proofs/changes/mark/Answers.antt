@@ -1,4 +1,4 @@
-use Rattle.std.proofs.Common.{◌≡◌, ◌++◌, ◌∷◌, ◌+◌, [], List, sym, subst, take}
+use Rattle.std.proofs.Common.{◌+◌, List, sym, subst, take}
 use Rattle.dl_base.specs.declared.requests.Changed.{Changed}
 use Rattle.transaction.specs.Marks.{Marks}
 use Rattle.transaction.proofs.MarkLaws.{marks_more, marked_by}

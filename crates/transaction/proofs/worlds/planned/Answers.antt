@@ -1,4 +1,4 @@
-use Rattle.std.proofs.Common.{refl, sym, ◌∙◌}
+use Rattle.std.proofs.Common.{refl}
 use Rattle.transaction.proofs.PlanLaws.{fits_version, plan_is, well_at}
 use Rattle.transaction.proofs.worlds.planned.Goals as goal
 

@@ -1,11 +1,9 @@
-use Rattle.std.proofs.Common.{◌≡◌, ◌≢◌, ◌<◌, ◌≤◌, ◌+◌, ℕ, List, length, take, true, false, arith, sym, ◌∙◌, ap, subst, eq-eqb}
-use Rattle.std.specs.Arc.{arc_value}
+use Rattle.std.proofs.Common.{◌+◌, List, length, take, true, false, arith, sym, ◌∙◌, ap, eq-eqb}
 use Rattle.std.specs.Prelude.{nat_eq, filter}
 use Rattle.std.proofs.lemmas.Bool.Decides.{eqb_tells}
 use Rattle.std.proofs.Common.{⊎_elim, add-zero}
 use Rattle.std.proofs.lemmas.List.{take_all}
-use Rattle.std.proofs.lemmas.List.{length-take-le, length-take}
-use Rattle.std.proofs.Math.Seq.{take-length}
+use Rattle.std.proofs.lemmas.List.{length-take}
 use Rattle.dl_base.specs.declared.requests.Entry.{Entry}
 use Rattle.dl_base.specs.Histories.{own}
 use Rattle.transaction.proofs.EntryLaws.{is_of, counted_more, counted_few, own_is}

@@ -3,7 +3,7 @@ use Rattle.std.specs.Arc.{arc_value}
 use Rattle.transaction.specs.declared.events.Event.TheVariants as event
 use Rattle.transaction.specs.declared.events.Reply.TheVariants as reply
 use Rattle.transaction.specs.Worlds.{State, StepsTo}
-use Rattle.transaction.proofs.WorldLaws.{has_begun, begins}
+use Rattle.transaction.proofs.WorldLaws.{has_begun}
 use Rattle.transaction.proofs.worlds.World.begin.Goals as goal
 
 pub returns-in-Some : goal.returns-in-Some

@@ -1,6 +1,5 @@
-use Rattle.std.proofs.Common.{◌≡◌, List, Option, Some, None, [], ℕ, refl, sym, ◌∙◌, ap, subst}
+use Rattle.std.proofs.Common.{◌≡◌, List, Option, Some, None, sym, ◌∙◌, ap, subst}
 use Rattle.std.specs.Arc.{arc_value}
-use Rattle.dl_base.specs.declared.requests.Request.{Request}
 use Rattle.dl_base.specs.declared.statements.Fact.{Fact}
 use Rattle.dl_base.specs.Clash.{IsConsistent}
 use Rattle.dl_base.specs.Ontologies.{Theory, Knows}

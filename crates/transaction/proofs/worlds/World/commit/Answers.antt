@@ -1,6 +1,5 @@
-use Rattle.std.proofs.Common.{◌≡◌, ◌≤◌, ◌<◌, ◌+◌, ◌∷◌, ◌++◌, [], List, Some, None, ℕ, Option, length, refl, sym, ◌∙◌, ap, subst, arith}
+use Rattle.std.proofs.Common.{◌≡◌, ◌≤◌, ◌<◌, ◌+◌, ◌∷◌, ◌++◌, [], List, Some, None, Option, length, sym, ◌∙◌, ap, subst}
 use Rattle.std.specs.Arc.{arc_value}
-use Rattle.std.proofs.lemmas.List.{length-append}
 use Rattle.dl_base.specs.declared.requests.Entry.{Entry}
 use Rattle.dl_base.specs.declared.statements.Fact.{Fact}
 use Rattle.transaction.specs.declared.events.Event.TheVariants as event

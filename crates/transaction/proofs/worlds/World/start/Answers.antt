@@ -1,10 +1,9 @@
-use Rattle.std.proofs.Common.{List, ◌≡◌, [], refl, sym, ◌∙◌, subst}
+use Rattle.std.proofs.Common.{List, refl, sym, ◌∙◌, subst}
 use Rattle.std.specs.Prelude.{◌↔◌, Contains, None}
 use Rattle.std.specs.Arc.{arc_value}
 use Rattle.dl_base.specs.declared.requests.Entry.{Entry}
 use Rattle.dl_base.specs.declared.statements.Fact.{Fact}
 use Rattle.dl_base.specs.FactOrder.{AreSorted}
-use Rattle.dl_base.specs.Ontologies.{Theory}
 use Rattle.dl_base.specs.Validity.{IsOntology}
 use Rattle.transaction.specs.Plans.{IsKept}
 use Rattle.transaction.proofs.WorldLaws.{starts}

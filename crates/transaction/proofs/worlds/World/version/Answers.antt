@@ -1,7 +1,3 @@
-use Rattle.std.proofs.Common.{subst, ap, sym, ◌∙◌}
-use Rattle.std.specs.Arc.{arc_value}
-use Rattle.dl_base.specs.Histories.{IsVersion, in_force}
-use Rattle.transaction.specs.Worlds.{State}
 use Rattle.transaction.proofs.WorldLaws.{version_sorted}
 use Rattle.transaction.proofs.worlds.World.version.Goals as goal
 
