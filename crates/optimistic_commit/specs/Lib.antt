@@ -1,0 +1,4 @@
+pub mod Changing
+pub mod Publishing
+pub mod States
+pub mod Stopping
