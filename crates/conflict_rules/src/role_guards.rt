@@ -81,54 +81,16 @@ impl Conflicts {
     ) -> Result<(), OutOfMemory>
         ensures { OnOk result (AreAdded (IsRoleGuardAt self.now.axioms role from.now to.now term) term.0 8 guards.old.items guards.new.items) }
     {
-        self.add_from(
-            alloc,
-            from,
-            Basic::Exists(RoleSide::Direct(role)),
-            term,
-            guards,
-        )?;
-        self.add_to(
-            alloc,
-            from,
-            Basic::Exists(RoleSide::Direct(role)),
-            term,
-            guards,
-        )?;
-        self.add_from(
-            alloc,
-            to,
-            Basic::Exists(RoleSide::Inverse(role)),
-            term,
-            guards,
-        )?;
-        self.add_to(
-            alloc,
-            to,
-            Basic::Exists(RoleSide::Inverse(role)),
-            term,
-            guards,
-        )?;
-        self.add_both(
-            alloc,
-            role,
-            from,
-            to,
-            RoleSide::Direct(term),
-            RoleSide::Inverse(term),
-            term,
-            guards,
-        )?;
-        self.add_both(
-            alloc,
-            role,
-            to,
-            from,
-            RoleSide::Inverse(term),
-            RoleSide::Direct(term),
-            term,
-            guards,
-        )?;
+        let starts = Basic::Exists(RoleSide::Direct(role));
+        let ends = Basic::Exists(RoleSide::Inverse(role));
+        let direct = RoleSide::Direct(term);
+        let inverse = RoleSide::Inverse(term);
+        self.add_from(alloc, from, starts, term, guards)?;
+        self.add_to(alloc, from, starts, term, guards)?;
+        self.add_from(alloc, to, ends, term, guards)?;
+        self.add_to(alloc, to, ends, term, guards)?;
+        self.add_both(alloc, role, from, to, direct, inverse, term, guards)?;
+        self.add_both(alloc, role, to, from, inverse, direct, term, guards)?;
         self.add_from_except(alloc, role, from, to, term, guards)?;
         self.add_to_except(alloc, role, from, to, term, guards)?;
         Ok(())
@@ -145,34 +107,12 @@ impl Conflicts {
     ) -> Result<(), OutOfMemory>
         ensures { OnOk result (AreAdded (IsOtherGuardAt self.now.axioms role from.now to.now term) term.0 4 guards.old.items guards.new.items) }
     {
-        self.add_class(
-            alloc,
-            from,
-            Basic::Exists(RoleSide::Direct(role)),
-            term,
-            guards,
-        )?;
-        self.add_attr(
-            alloc,
-            from,
-            Basic::Exists(RoleSide::Direct(role)),
-            term,
-            guards,
-        )?;
-        self.add_class(
-            alloc,
-            to,
-            Basic::Exists(RoleSide::Inverse(role)),
-            term,
-            guards,
-        )?;
-        self.add_attr(
-            alloc,
-            to,
-            Basic::Exists(RoleSide::Inverse(role)),
-            term,
-            guards,
-        )?;
+        let starts = Basic::Exists(RoleSide::Direct(role));
+        let ends = Basic::Exists(RoleSide::Inverse(role));
+        self.add_class(alloc, from, starts, term, guards)?;
+        self.add_attr(alloc, from, starts, term, guards)?;
+        self.add_class(alloc, to, ends, term, guards)?;
+        self.add_attr(alloc, to, ends, term, guards)?;
         Ok(())
     }
 

@@ -56,6 +56,13 @@ held_by n links f = (
 pub facts_sorted : (n : Numbered) (links : List Link) → AreSorted (facts_of n links)
 facts_sorted n links = in_order_sorted (map (fact_at n) links)
 
+-- the same links stand for the same facts
+pub same_links : (n : Numbered) (links made : List Link) (facts : List Fact) → ((l : Link) → Contains made l ↔ Contains links l) → ((f : Fact) → Contains (facts_of n links) f ↔ Contains facts f) → (f : Fact) → Contains (facts_of n made) f ↔ Contains facts f
+same_links n links made facts same are f = (
+  (λ m. let (l, d, e) = (held_by n made f).0 m in (are f).0 ((held_by n links f).1 (l, (same l).0 d, e))),
+  λ m. let (l, d, e) = (held_by n links f).0 ((are f).1 m) in (held_by n made f).1 (l, (same l).1 d, e),
+)
+
 -- numbers stay with their names and values
 module _ {X : Type 0} (xs ys : List X) (g : IsGrown xs ys) where
   longer : length xs ≤ length ys

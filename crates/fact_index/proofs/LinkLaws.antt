@@ -3,14 +3,16 @@ use Rattle.std.proofs.lemmas.List.{take_more}
 use Rattle.std.proofs.Common.{◌≡◌, ℕ, ◌<◌, ◌+◌, length, take, get_or, Bool, true, false, not, List, ◌++◌, ◌∷◌, [], refl, sym, ◌∙◌, ap, subst, arith, inl, inr, ◌⊎◌, ⊎_elim}
 use Rattle.std.specs.Prelude.{Contains, ◌↔◌, Some, slice_get, nat_lt}
 use Rattle.std.specs.List.Sorted.{IsStrictlySortedBy}
-use Rattle.std.specs.declared.cmp.Ordering.TheVariants.{Less, Equal}
-use Rattle.std.proofs.lemmas.Cmp.{tied_itself}
+use Rattle.std.specs.Ordering.{is_eq}
+use Rattle.std.specs.declared.cmp.Ordering.{Ordering}
+use Rattle.std.specs.declared.cmp.Ordering.TheVariants.{Less, Equal, Greater}
+use Rattle.std.proofs.lemmas.Cmp.{tied_itself, eq_by_cmp_equiv}
 use Rattle.std.proofs.lemmas.Option.{slice_get_within, get_or_from_slice_get}
 use Rattle.std.proofs.lemmas.Map.Keys.{Less-from_sorted}
-use Rattle.std.specs.BTreeSet.{BTreeSet, contains}
+use Rattle.std.specs.BTreeSet.{BTreeSet, contains, IsFromIterResult}
 use Rattle.std.proofs.lemmas.Bool.{false≢true, ltb-true, ltb-false}
 use Rattle.std.proofs.lemmas.List.Elements.{Contains-push, Contains-append_left, Contains-push_cases}
-use Rattle.std.proofs.lemmas.Map.Views.{btree_set_contains_iff}
+use Rattle.std.proofs.lemmas.Map.Views.{btree_set_contains_iff, Contains-from_any, list_any-from_Contains}
 use Rattle.fact_index.specs.Links.{turned, AreBothWays}
 use Rattle.fact_index.specs.Numbers.{AreOnce}
 use Rattle.fact_index.specs.declared.places.Link.{Link}
@@ -25,6 +27,18 @@ IsTaken k old new = (l : Link) → Contains new l ↔ (Contains old l × ¬ (l �
 -- the test of an ordered set, as membership
 pub is_member : (s : BTreeSet Link) (k : Link) {b : Bool} → b ≡ contains link_cmp s k → (b ≡ true) ↔ Contains s.keys k
 is_member s k e = let iff = btree_set_contains_iff link_total link_exact s k in ((λ h. iff.0 (sym e ∙ h)), λ m. e ∙ iff.1 m)
+
+is_equal : (o : Ordering) → is_eq o ≡ true → o ≡ Equal
+is_equal Less e = cc
+is_equal Equal e = refl
+is_equal Greater e = cc
+
+-- an ordered set made of a list has its links
+pub made_of : (links : List Link) (s : BTreeSet Link) → IsFromIterResult link_cmp links s → (l : Link) → Contains s.keys l ↔ Contains links l
+made_of links s made l = (
+  (λ m. Contains-from_any (λ x y e. link_exact x y (is_equal _ e)) l links (sym (made.0 l) ∙ (is_member s l refl).1 m)),
+  λ m. (is_member s l refl).0 (made.0 l ∙ list_any-from_Contains (eq_by_cmp_equiv link_total) l links m),
+)
 
 not_was : (b c : Bool) → c ≡ not b → c ≡ false → b ≡ true
 not_was true c e h = refl
@@ -78,6 +92,12 @@ module _ (k : Link) (forth back : List Link) (both : AreBothWays forth back) whe
 pub held_is_put : (k : Link) (links : List Link) → Contains links k → IsPut k links links
 held_is_put k links m l = (inr, λ h. ⊎_elim (λ e. subst (Contains links) (sym e) m) (λ n. n) h)
 
+pub put_last : (k : Link) (links : List Link) → IsPut k links (links ++ k ∷ [])
+put_last k links l = (
+  (λ m. ⊎_elim inr (λ e. inl (sym e)) (Contains-push_cases links k l m)),
+  λ h. ⊎_elim (λ e. subst (Contains (links ++ k ∷ [])) (sym e) (Contains-push links k)) (λ m. Contains-append_left links (k ∷ []) l m) h,
+)
+
 -- the links so far, turned round
 abbrev pub AreTurned : List Link → List Link → Type 0
 AreTurned links found = (l : Link) → Contains found l ↔ Contains links (turned l)
@@ -87,6 +107,12 @@ turned_more links found k h l = (
   (λ m. ⊎_elim (λ n. Contains-append_left links (k ∷ []) (turned l) ((h l).0 n)) (λ e. subst (Contains (links ++ k ∷ [])) (ap turned e) (Contains-push links k)) (Contains-push_cases found (turned k) l m)),
   λ m. ⊎_elim (λ n. Contains-append_left found (turned k ∷ []) l ((h l).1 n)) (λ e. subst (Contains (found ++ turned k ∷ [])) (ap turned e) (Contains-push found (turned k))) (Contains-push_cases links k (turned l) m),
 )
+
+-- what has the links, and what has them turned round
+pub both_ways : (links turned_links forth back : List Link) → ((l : Link) → Contains forth l ↔ Contains links l) → ((l : Link) → Contains back l ↔ Contains turned_links l) → AreTurned links turned_links → AreBothWays forth back
+both_ways links turned_links forth back f b t = record {
+  each = λ l. ((λ m. (f (turned l)).1 ((t l).0 ((b l).0 m))), λ m. (b l).1 ((t l).1 ((f (turned l)).0 m)));
+}
 
 -- the links of a run of those turned round, turned back
 pub found_back : (forth back turned_found found : List Link) (P : Link → Type 0) → AreBothWays forth back → ((l : Link) → Contains turned_found l ↔ (Contains back l × P l)) → AreTurned turned_found found

@@ -4,7 +4,7 @@ ghost use Rattle.dl_base.specs.FactOrder.{AreSorted};
 ghost use Rattle.dl_base.specs.Patterns.{Matches};
 ghost use Rattle.dl_base.specs.Updates.{Lists};
 ghost use Rattle.fact_index.specs.Numbers.{fact_at};
-ghost use Rattle.fact_index.specs.Looking.{AreWithin, IsFoundAmong, IsPushedIf};
+ghost use Rattle.fact_index.specs.Looking.{AreWithin, IsFoundAmong, IsPushedIf, facts_of};
 ghost use Rattle.fact_index.specs.declared.index.Refused.TheVariants as refused;
 
 use crate::links::Links;
@@ -59,10 +59,13 @@ impl Index {
         ensures same { IfOk result (λ index. (f : fact_type.Fact) → Contains index f ↔ Contains facts.now f) }
         ensures sorted { IfOk result (λ index. AreSorted index) }
     {
-        let mut index = Index::new(alloc);
-        for fact in facts {
-            index.take_in(fact)?;
-        }
+        let mut numbers = Numbers::new(alloc);
+        let links = links_in(alloc, &mut numbers, facts)?;
+        let index = Index {
+            numbers,
+            links: Links::of(alloc, links)?,
+            alloc,
+        };
         let _count = index.len();
         Ok(index)
     }
@@ -147,6 +150,18 @@ impl Index {
         let ordered = sorted_once(found)?;
         Ok(ordered)
     }
+}
+
+/// The links that stand for the facts from now on, in the order of these.
+fn links_in(alloc: Global, numbers: &mut Numbers, facts: &[Fact]) -> Result<Vec<Link>, OutOfMemory>
+    ensures within { IfOk result (λ links. AreWithin numbers.new links.items) }
+    ensures same { IfOk result (λ links. (f : fact_type.Fact) → Contains (facts_of numbers.new links.items) f ↔ Contains facts.now f) }
+{
+    let mut links = Vec::with_capacity(alloc, facts.len())?;
+    for fact in facts {
+        links.push(numbers.link_in(alloc, fact)?)?;
+    }
+    Ok(links)
 }
 
 /// The facts of the links, in the order of these.

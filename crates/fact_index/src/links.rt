@@ -40,6 +40,17 @@ impl Links {
         }
     }
 
+    /// The links, repeats dropped. Both orders are made at once, each by one sorting.
+    pub fn of(alloc: Global, links: Vec<Link>) -> Result<Links, OutOfMemory>
+        ensures { IfOk result (λ made. (l : link_type.Link) → Contains made l ↔ Contains links.items l) }
+    {
+        let turned = all_turned(alloc, links.as_slice())?;
+        Ok(Links {
+            forth: in_order(alloc, links)?,
+            back: in_order(alloc, turned)?,
+        })
+    }
+
     /// Takes the link in; true exactly where it wasn't held.
     pub fn insert(&mut self, link: Link) -> Result<bool, OutOfMemory>
         ensures added { IfOk result (λ added. IsTrue added ↔ ¬ Contains self.old link) }
@@ -111,6 +122,14 @@ impl Links {
             }
         }
     }
+}
+
+/// The set of the links: they are sorted once, and the set is made of them in order.
+fn in_order(alloc: Global, links: Vec<Link>) -> Result<BTreeSet<Link>, OutOfMemory>
+    ensures { IfOk result (λ set. (l : link_type.Link) → Contains set.keys l ↔ Contains links.items l) }
+{
+    let set: BTreeSet<Link> = links.into_iter().collect(alloc)?;
+    Ok(set)
 }
 
 /// The links of the run: a range of the set, from the least one on up to the first that is in the run no more.

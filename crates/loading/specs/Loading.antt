@@ -1,5 +1,5 @@
 -- What is opened, and why not.
-use Rattle.std.specs.Prelude.{◌≡◌, ◌+◌, ℕ, List, ◌++◌, Result, Ok, Err, Some, slice_get}
+use Rattle.std.specs.Prelude.{◌≡◌, ◌⊎◌, ◌+◌, ℕ, List, [], ◌∷◌, ◌++◌, Contains, Result, Ok, Err, Some, slice_get}
 use Rattle.std.specs.Arc.{arc_value}
 use Rattle.dl_base.specs.declared.axioms.Axiom.{Axiom}
 use Rattle.dl_base.specs.declared.statements.Fact.{Fact}
@@ -14,6 +14,10 @@ use Rattle.loading.specs.declared.refusals.LoadRefusal.TheVariants as refusal
 use Rattle.ntriples.specs.Files.{Reads}
 use Rattle.ntriples.specs.declared.files.ReadFacts.{ReadFacts}
 use Rattle.owl_read.specs.Documents.{Reads as ReadsOntology}
+
+-- the fact is known and nothing changes, or it isn't and comes last
+abbrev pub IsPushedUnless : List Fact → List Fact → Fact → List Fact → Type 0
+IsPushedUnless known old f new = (Contains known f × (new ≡ old)) ⊎ ((¬ Contains known f) × (new ≡ old ++ f ∷ []))
 
 -- the facts are open under the ontology: they are consistent, and so many triples were skipped
 pub record IsOpened (theory : Theory) (facts : List Fact) (skipped : ℕ) (it : Opened) : Type 0 where

@@ -1,13 +1,15 @@
-ghost use Rattle.std.specs.Prelude.{◌≡◌, Contains, IfNone, IfOk, IfSome, MatchOption};
+ghost use Rattle.std.specs.Prelude.{◌≡◌, ◌++◌, List, Contains, IfNone, IfOk, IfSome, MatchOption, OnOk};
 ghost use Rattle.dl_base.specs.Clash.{IsConsistent};
+ghost use Rattle.dl_base.specs.FactOrder.{AreSorted};
 ghost use Rattle.dl_base.specs.IllFormed.{NamesPair};
 ghost use Rattle.dl_base.specs.Ontologies.{Knows};
+ghost use Rattle.dl_base.specs.Repeats.{IsOnce};
 ghost use Rattle.dl_base.specs.declared.statements.Fact as fact_type;
-ghost use Rattle.loading.specs.Loading.{Contradicts, Opens, Loads};
+ghost use Rattle.loading.specs.Loading.{Contradicts, IsPushedUnless, Opens, Loads};
 ghost use Rattle.update_engine.specs.Judging.{IsClash};
 
 use crate::refusals::LoadRefusal;
-use dl_base::{Fact, Ontology, OutOfMemory, Steps, copies_of, once};
+use dl_base::{Fact, Facts, Ontology, OutOfMemory, Steps, copies_of, once, sorted_once};
 use dl_text::ReadRefusal;
 use fact_index::Index;
 use ntriples::read_facts;
@@ -15,7 +17,7 @@ use std::alloc::Global;
 use std::marker::Brand;
 use std::sync::Arc;
 use std::sync::ledger::{Blank, Ledger};
-use update_engine::{Clash, Rules, first_clash_in};
+use update_engine::{Clash, Rules, first_clash_in, is_in_order};
 
 /// An ontology with its rules, facts that are consistent under it, and how many triples were skipped.
 #[derive(Drop)]
@@ -112,6 +114,30 @@ fn pair(alloc: Global, rules: &Rules, facts: &[Fact], place: usize, other: usize
     LoadRefusal::Pair(fact, beside)
 }
 
+/// The given facts and behind them those of the file, without those that are given. None of either stands twice, so only the given ones
+/// are put in order, and no fact of the file is copied.
+fn joined(alloc: Global, mut given: Vec<Fact>, found: Facts) -> Result<Vec<Fact>, OutOfMemory>
+    requires { IsOnce found found }
+    ensures { IfOk result (λ all. (facts : List fact_type.Fact) → IsOnce facts given.items → IsOnce (facts ++ found) all.items) }
+{
+    let known = sorted_once(copies_of(alloc, given.as_slice())?)?;
+    for fact in found.into_vec() {
+        push_unless(&mut given, known.as_slice(), fact)?;
+    }
+    Ok(given)
+}
+
+/// Pushes the fact if it isn't among those known.
+fn push_unless(facts: &mut Vec<Fact>, known: &[Fact], fact: Fact) -> Result<(), OutOfMemory>
+    requires { AreSorted known.now }
+    ensures { OnOk result (IsPushedUnless known.now facts.old.items fact facts.new.items) }
+{
+    if !is_in_order(known, &fact) {
+        facts.push(fact)?;
+    }
+    Ok(())
+}
+
 /// Opens the given facts together with those of a file of N-Triples, repeats dropped. Refused in this order: the file, as its reader says
 /// (`Facts`); facts that contradict the axioms (`Alone`, `Pair`). More skipped triples than a number of 64 bits counts are want of memory.
 pub fn load_over(
@@ -130,9 +156,8 @@ pub fn load_over(
         Err(ReadRefusal::OutOfMemory) => return Err(LoadRefusal::OutOfMemory),
         Err(refusal) => return Err(LoadRefusal::Facts(refusal)),
     };
-    let mut all = copies_of(alloc, given)?;
-    all.append(&mut copies_of(alloc, found.facts.as_slice())?)?;
-    let all = once(alloc, all.as_slice())?;
+    let kept = once(alloc, given)?;
+    let all = joined(alloc, kept, found.facts)?;
     let Some(skipped) = before.checked_add(found.skipped) else {
         return Err(LoadRefusal::OutOfMemory);
     };

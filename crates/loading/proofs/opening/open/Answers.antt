@@ -1,4 +1,4 @@
-use Rattle.std.proofs.Common.{List, refl, sym, ◌∙◌, subst, ap}
+use Rattle.std.proofs.Common.{List, refl, sym, ◌∙◌, subst}
 use Rattle.dl_base.specs.declared.statements.Fact.{Fact}
 use Rattle.dl_base.specs.Clash.{IsConsistent}
 use Rattle.dl_base.specs.Ontologies.{Theory, Knows}

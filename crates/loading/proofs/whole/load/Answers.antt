@@ -1,4 +1,4 @@
-use Rattle.std.proofs.Common.{◌≡◌, List, sym, subst}
+use Rattle.std.proofs.Common.{List, sym, subst}
 use Rattle.std.specs.Prelude.{Ok}
 use Rattle.dl_base.specs.declared.statements.Fact.{Fact}
 use Rattle.owl_read.specs.Documents.{Reads}

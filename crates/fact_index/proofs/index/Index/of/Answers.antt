@@ -1,14 +1,17 @@
-use Rattle.std.proofs.Common.{◌<◌, length, refl, arith}
-use Rattle.fact_index.proofs.WholeLaws.{has_none, has_next, has_end}
+use Rattle.std.proofs.Common.{sym, subst}
+use Rattle.std.specs.Prelude.{Contains, ◌↔◌}
+use Rattle.dl_base.specs.declared.statements.Fact.{Fact}
+use Rattle.fact_index.specs.Looking.{facts_of}
+use Rattle.fact_index.specs.Numbers.{Numbered, IsWithin}
+use Rattle.fact_index.proofs.IndexLaws.{same_links}
 use Rattle.fact_index.proofs.index.Index.of.Goals as goal
 
-pub loop-fact-init : goal.loop-fact-init
-loop-fact-init c = rw c.new-index.ensures has_none
-
-pub loop-fact-preserved : goal.loop-fact-preserved
-loop-fact-preserved c =
-    let within : c.loop-fact.fact-index < length c.args.facts.now = omega arith in
-    has_next c.args.facts.now c.loop-fact.fact-index c.fact-item.result c.fact-item.result c.loop-fact.index c.take_in.new.self within c.fact-item.is refl c.in_ok-take_in.ensures.held c.loop-fact.invariant
+pub invariant_of-index-2 : goal.invariant_of-index-2
+invariant_of-index-2 c = λ l m. subst (λ (n : Numbered). IsWithin n l) (sym c.numbers.view_is) (c.in_ok-links.ensures.within l ((c.in_ok-of.ensures l).0 m))
 
 pub returns-clause-same : goal.returns-clause-same
-returns-clause-same c = has_end c.args.facts.now c.loop-fact.fact-index c.loop-fact.index c.loop-fact-test.false c.loop-fact.invariant
+returns-clause-same c =
+    let links = c.in_ok-links.links.items in
+    let made = c.in_ok-of.field-0 in
+    let facts = c.args.facts.now in
+    subst (λ (n : Numbered). (f : Fact) → Contains (facts_of n made) f ↔ Contains facts f) (sym c.numbers.view_is) (same_links c.links_in.new.numbers links made facts c.in_ok-of.ensures c.in_ok-links.ensures.same)
