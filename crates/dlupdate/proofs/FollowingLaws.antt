@@ -10,7 +10,7 @@ use Rattle.dl_base.proofs.ClashLaws.{clash_more}
 use Rattle.dl_base.specs.declared.axioms.Axiom.{Axiom}
 use Rattle.dl_laws.proofs.Stepping.{step_updates}
 use Rattle.dl_base.specs.declared.requests.Entry.{Entry}
-use Rattle.dl_base.specs.Histories.{IsVersion}
+use Rattle.dl_base.specs.Histories.{IsVersion, in_force}
 use Rattle.dl_base.proofs.HistoryLaws.{version_is_one}
 use Rattle.loading.specs.declared.opening.Opened.{Opened}
 use Rattle.std.specs.Arc.{arc_value}
@@ -20,7 +20,7 @@ use Rattle.update_read.specs.declared.reading.ReadUpdate.{ReadUpdate}
 use Rattle.dlupdate.specs.declared.reports.Report.{Report}
 use Rattle.dlupdate.specs.declared.reports.Stop.{Stop}
 use Rattle.dlupdate.specs.declared.reports.Stop.TheVariants as stop
-use Rattle.dlupdate.specs.Committing.{Commits, StandsAt}
+use Rattle.dlupdate.specs.Committing.{Commits, StandsAt, current}
 use Rattle.dlupdate.specs.Opening.{IsBase}
 use Rattle.dlupdate.specs.Following.{IsPart, EndsHere}
 use Rattle.dlupdate.specs.Runs.{Contents, GivesUpdate, RefusesUpdate, IsUnread, update_limit, Takes, Follows, FollowsFrom, ends, goes, no_update, ill_formed, IsTold, IsStopped}
@@ -97,18 +97,18 @@ takes_is theory stored next lost update consistent well stored_is lost_is =
     let (is_update, stays) = step_updates theory.axioms stored update.inserts update.deletes next consistent well stored_is.each in
     record { well_formed = well; stored_is = stored_is; lost_is = lost_is; updates = is_update; consistent = stays }
 
-module _ (contents : Option Contents) (theory : Theory) (head : ℕ → List ℕ) (number : ℕ) (stored : List Fact) (name : List ℕ) (update : ReadUpdate) (s t : State) (inserts deletes : List Fact) (opens : s.opening ≡ theory) (same_inserts : inserts ≡ update.inserts) (same_deletes : deletes ≡ update.deletes) (gives : IfSome contents (λ c. GivesUpdate c theory name update)) where
+module _ (contents : Option Contents) (theory : Theory) (head : ℕ → List ℕ) (number : ℕ) (stored : List Fact) (name : List ℕ) (update : ReadUpdate) (s t : State) (inserts deletes : List Fact) (force : current s ≡ theory) (same_inserts : inserts ≡ update.inserts) (same_deletes : deletes ≡ update.deletes) (gives : IfSome contents (λ c. GivesUpdate c theory name update)) where
   -- what is said of the copies is said of the update
-  commits_of : (answer : Result (List Fact) IllFormed) → Commits s.opening stored inserts deletes t answer → Commits theory stored update.inserts update.deletes t answer
-  commits_of answer h = subst (λ (ds : List Fact). Commits theory stored update.inserts ds t answer) same_deletes (subst (λ (ins : List Fact). Commits theory stored ins deletes t answer) same_inserts (subst (λ (x : Theory). Commits x stored inserts deletes t answer) opens h))
+  commits_of : (answer : Result (List Fact) IllFormed) → Commits (current s) stored inserts deletes t answer → Commits theory stored update.inserts update.deletes t answer
+  commits_of answer h = subst (λ (ds : List Fact). Commits theory stored update.inserts ds t answer) same_deletes (subst (λ (ins : List Fact). Commits theory stored ins deletes t answer) same_inserts (subst (λ (x : Theory). Commits x stored inserts deletes t answer) force h))
 
-  pub part_is : (lost : List Fact) (part : List ℕ) → IsConsistent theory.axioms stored → Commits s.opening stored inserts deletes t (Ok lost) → part ≡ text.updated (head number) theory update.skipped lost
+  pub part_is : (lost : List Fact) (part : List ℕ) → IsConsistent theory.axioms stored → Commits (current s) stored inserts deletes t (Ok lost) → part ≡ text.updated (head number) theory update.skipped lost
       → IsPart contents theory head number stored name t part
   part_is lost part consistent h printed =
       let (next, stands, well, stored_is, lost_is) = commits_of (Ok lost) h in
       (update, lost, next, gives, takes_is theory stored next lost update consistent well stored_is lost_is, stands, printed)
 
-  pub part_stopped : (ill : IllFormed) (report : Report) → Commits s.opening stored inserts deletes t (Err ill) → report.status ≡ 5 → report.text.items ≡ text.ill_formed theory number update.inserts update.deletes ill
+  pub part_stopped : (ill : IllFormed) (report : Report) → Commits (current s) stored inserts deletes t (Err ill) → report.status ≡ 5 → report.text.items ≡ text.ill_formed theory number update.inserts update.deletes ill
       → EndsHere contents theory head number stored name (stop.Report report)
   part_stopped ill report h five printed = λ names.
       with_told contents (λ c. GivesUpdate c theory name update) (λ c. Follows c theory head number stored (name ∷ names) report.status report.text.items)
@@ -137,7 +137,7 @@ starts_at contents head names it w printed is_base opening nothing none = (
   w.facts,
   w.facts,
   opening.1,
-  (opening.0 ∙ is_base.rules, nothing.1, subst (λ (es : List Entry). IsVersion w.facts es w.facts) (sym nothing.0) refl),
+  ((λ i. in_force (opening.0 i) (nothing.0 i)) ∙ is_base.rules, nothing.1, subst (λ (es : List Entry). IsVersion w.facts es w.facts) (sym nothing.0) refl),
   consistent_within it.ontology.axioms w.facts it.facts.items (λ f m. (opening.1.each f).0 m) is_base.consistent,
   subst (λ (p : List ℕ). SoFar contents it.ontology head w.facts names 0 w.facts p) (sym none) (none_so_far contents it.ontology head w.facts names w.facts refl),
 )
@@ -146,8 +146,8 @@ module _ (contents : Option Contents) (theory : Theory) (head : ℕ → List ℕ
   pub idle_at : w.begun ≡ []
   idle_at = let (base, stored, lists, stands, consistent, so) = at in stands.1
 
-  pub opening_at : w.opening ≡ theory
-  opening_at = let (base, stored, lists, stands, consistent, so) = at in stands.0
+  pub force_at : current w ≡ theory
+  force_at = let (base, stored, lists, stands, consistent, so) = at in stands.0
 
   -- one update is taken
   pub goes_on : (name part : List ℕ) (t : State) → drop n names ≡ name ∷ drop (n + 1) names

@@ -1,7 +1,7 @@
 ghost use Rattle.std.specs.Prelude.{◌≡◌, [], List, All, IfOk};
-ghost use Rattle.dl_base.specs.Ontologies.{Theory, Knows};
+ghost use Rattle.dl_base.specs.Ontologies.{Knows};
 ghost use Rattle.dl_base.specs.declared.statements.Fact as fact_type;
-ghost use Rattle.dlupdate.specs.Committing.{StandsAt, Commits};
+ghost use Rattle.dlupdate.specs.Committing.{StandsAt, Commits, current};
 
 use dl_base::{Facts, OutOfMemory};
 use fact_index::Whole;
@@ -15,9 +15,9 @@ pub fn committed(
     deletes: Facts,
 ) -> Result<Result<Facts, IllFormed>, OutOfMemory>
     requires idle { world.old.begun ≡ [] }
-    requires known { All (Knows world.old.opening) inserts × All (Knows world.old.opening) deletes }
-    ensures { IfOk result (λ answer. (stored : List fact_type.Fact) → StandsAt world.old world.old.opening stored
-        → Commits world.old.opening stored inserts deletes world.new answer) }
+    requires known { All (Knows (current world.old)) inserts × All (Knows (current world.old)) deletes }
+    ensures { IfOk result (λ answer. (stored : List fact_type.Fact) → StandsAt world.old (current world.old) stored
+        → Commits (current world.old) stored inserts deletes world.new answer) }
 {
     // The contracts of the two versions say what stands before and after.
     let _before = world.version();

@@ -3,7 +3,7 @@ ghost use Rattle.dl_base.specs.declared.statements.Fact as fact_type;
 ghost use Rattle.dl_io.specs.Causes.{Rose};
 ghost use Rattle.dl_base.specs.Clash.{IsConsistent};
 ghost use Rattle.dlupdate.specs.Commands.{words_of};
-ghost use Rattle.dlupdate.specs.Committing.{StandsAt};
+ghost use Rattle.dlupdate.specs.Committing.{StandsAt, current};
 ghost use Rattle.dlupdate.specs.Opening.{IsBase};
 ghost use Rattle.dlupdate.specs.Following.{head_of, IsPart, EndsHere};
 ghost use Rattle.dlupdate.specs.Runs.{FollowsFrom, IsTold, IsStopped, StopsOnly};
@@ -89,7 +89,7 @@ fn part<F: Files>(
     numbered: bool,
 ) -> Result<Vec<u8>, Stop>
     requires idle { world.old.begun ≡ [] }
-    requires opening { world.old.opening ≡ ontology.now }
+    requires force { current world.old ≡ ontology.now }
     ensures ok { IfOk result (λ part. (stored : List fact_type.Fact) → StandsAt world.old ontology.now stored → IsConsistent ontology.now.axioms stored
         → IsPart (F.contents files.old) ontology.now (head_of numbered) number stored name.now world.new part.items) }
     ensures stopped { IfErr result (λ s. (stored : List fact_type.Fact) → StandsAt world.old ontology.now stored

@@ -1,12 +1,1 @@
-pub mod StopLaws
-pub mod ValidLaws
-pub mod VersionSteps
-pub mod FreshLaws
-pub mod ChangeLaws
-pub mod PublishLaws
-pub mod SoundLaws
-pub mod StartLaws
-pub mod HeldLaws
-pub mod UpdateLaws
-pub mod CommitSteps
 pub mod ReadyLaws

@@ -1,8 +1,8 @@
 -- Parts of a transaction of one change, and parts while others commit.
-use Rattle.std.proofs.Common.{◌≡◌, ◌≤◌, ◌<◌, ◌+◌, ◌++◌, ◌∷◌, ℕ, List, [], length, take, refl, sym, ◌∙◌, ap, subst, inl, inr, ⊎_elim, arith}
+use Rattle.std.proofs.Common.{◌≡◌, ◌≤◌, ◌<◌, ◌++◌, ◌∷◌, ℕ, List, [], length, take, sym, ◌∙◌, ap, subst, inr, ⊎_elim, arith}
 use Rattle.std.specs.Prelude.{All, Contains}
 use Rattle.std.proofs.Math.Seq.{take-length}
-use Rattle.std.proofs.lemmas.List.{take-append-le, length-append, append-nil}
+use Rattle.std.proofs.lemmas.List.{take-append-le, length-append}
 use Rattle.std.proofs.lemmas.List.Elements.{All-from_recursion, All-cons, All-nil}
 use Rattle.dl_base.specs.declared.axioms.Axiom.{Axiom}
 use Rattle.dl_base.specs.declared.requests.Entry.{Entry}
@@ -11,7 +11,7 @@ use Rattle.dl_base.specs.declared.requests.Request.TheVariants.{Change}
 use Rattle.dl_base.specs.declared.statements.Fact.{Fact}
 use Rattle.dl_base.specs.Histories.{HasChange, IsVersion, in_force, in_force_at}
 use Rattle.dl_base.specs.Ontologies.{Theory, Knows, KnowsRequest}
-use Rattle.dl_base.specs.Transactions.{Runs, done, then, IsWell, StaysPut, StaysTaken}
+use Rattle.dl_base.specs.Transactions.{Runs, done, then, IsWell}
 use Rattle.dl_base.specs.Updates.{Lists, IsStored, IsWellFormed}
 use Rattle.dl_base.proofs.Members.{here}
 use Rattle.dl_base.proofs.SortedLaws.{all_of}
@@ -19,8 +19,12 @@ use Rattle.update_engine.specs.declared.answers.Step.{Step}
 use Rattle.update_engine.specs.Stepping.{IsStep}
 use Rattle.read_patterns.specs.declared.parts.Parts.{Parts}
 use Rattle.read_patterns.specs.Effects.{AreEffects}
-use Rattle.optimistic_commit.specs.Publishing.{Publishes, HasOutcome, Continues}
-use Rattle.optimistic_commit.specs.States.{Seen, AreAsked, AreTaken, IsReady}
+use Rattle.optimistic_commit.specs.Publishing.{Publishes}
+use Rattle.serial_history.specs.Committing.{Continues}
+use Rattle.serial_history.specs.Replacing.{ReplacesBy}
+use Rattle.serial_history.specs.States.{Seen, IsReady}
+use Rattle.serial_history.specs.declared.replacing.Replacing.{Replacing}
+use Rattle.serial_history.specs.declared.replacing.Replacing.TheVariants as replacing
 use Rattle.optimistic_commit.specs.declared.publishing.Published.{Published}
 use Rattle.optimistic_commit.specs.declared.publishing.Published.TheVariants as published
 
@@ -95,12 +99,21 @@ module _ (s : Seen) (parts : Parts) (ready : IsReady s parts) where
         );
       }
 
+  ready_next : (e : Entry) (t : Seen) → t.entries ≡ s.entries ++ e ∷ [] → Continues s t → IsReady t parts
+  ready_next e t grew h =
+      subst (λ (u : Seen). IsReady u parts) (sym (h.3 ∙ ap (λ (es : List Entry). let u : Seen = record { opening = s.opening; facts = s.facts; limit = s.limit; entries = es; layers = t.layers } in u) grew)) (ready_grown (e ∷ []) t.layers)
+
   -- parts stay ready while another commit is answered
   pub ready_after : (editor : ℕ) (others : Parts) (answer : Published) (t : Seen) → Publishes s editor others answer t → IsReady t parts
-  ready_after editor others (published.Committed n) t h =
-      let e = h.0.4.0 in
-      let grew : t.entries ≡ s.entries ++ e ∷ [] = h.0.4.2 in
-      subst (λ (u : Seen). IsReady u parts) (sym (h.1.3 ∙ ap (λ (es : List Entry). let u : Seen = record { opening = s.opening; facts = s.facts; limit = s.limit; entries = es; layers = t.layers } in u) grew)) (ready_grown (e ∷ []) t.layers)
+  ready_after editor others (published.Committed n) t h = ready_next h.0.4.0 t h.0.4.2 h.1
   ready_after editor others (published.Conflict met entry) t h = subst (λ (u : Seen). IsReady u parts) (sym h.2) ready
   ready_after editor others (published.Full given) t h = subst (λ (u : Seen). IsReady u parts) (sym h.2) ready
   ready_after editor others (published.OutOfMemory given) t h = subst (λ (u : Seen). IsReady u parts) (sym h.2) ready
+
+  -- parts stay ready while a replacement is answered
+  pub ready_replaced : (editor : ℕ) (theory : Theory) (answer : Replacing) (t : Seen) → ReplacesBy s editor theory answer t → IsReady t parts
+  ready_replaced editor theory (replacing.Replaced n) t h = ready_next h.0.3.0 t h.0.3.2 h.1
+  ready_replaced editor theory replacing.Full t h = subst (λ (u : Seen). IsReady u parts) (sym h.1) ready
+  ready_replaced editor theory (replacing.Alone f) t h = subst (λ (u : Seen). IsReady u parts) (sym h.1) ready
+  ready_replaced editor theory (replacing.Pair f g) t h = subst (λ (u : Seen). IsReady u parts) (sym h.1) ready
+  ready_replaced editor theory replacing.OutOfMemory t h = subst (λ (u : Seen). IsReady u parts) (sym h.1) ready

@@ -1,4 +1,1 @@
-pub mod Changing
 pub mod Publishing
-pub mod States
-pub mod Stopping

@@ -1,11 +1,13 @@
 //! The ontology and the facts that the tests speak of, and transactions of one change over them.
 ghost use Rattle.std.specs.Prelude.{◌≡◌, ◌∷◌, [], Contains, IfOk, IsTrue};
+ghost use Rattle.std.specs.Arc.{arc_value};
 ghost use Rattle.dl_base.specs.Clash.{IsConsistent};
 ghost use Rattle.dl_base.specs.Histories.{in_force};
-ghost use Rattle.dl_base.specs.Ontologies.{Knows};
+ghost use Rattle.dl_base.specs.Ontologies.{Extends, Knows};
+ghost use Rattle.dl_base.specs.Validity.{IsOntology};
 ghost use Rattle.dl_base.specs.declared.requests.Request.TheVariants.{Change};
 ghost use Rattle.dl_base.specs.declared.statements.Fact as fact_type;
-ghost use Rattle.optimistic_commit.specs.States.{IsReady};
+ghost use Rattle.serial_history.specs.States.{IsReady};
 ghost use Rattle.update_engine.specs.Stepping.{IsStep};
 
 use crate::states::State;
@@ -41,7 +43,8 @@ pub type Line = (u32, &'static str, &'static str);
 pub type Lines = (&'static [Line], &'static [Line]);
 
 /// Staff are persons and professors are staff, students are persons and no staff; who teaches is a professor, and what is taught is a course.
-fn university(alloc: Global) -> Result<Rules, Fail> {
+/// These axioms come after those.
+fn university(alloc: Global, mut more: Vec<Axiom>) -> Result<Ontology, Fail> {
     let mut terms = Vec::new(alloc);
     for number in 0..TEACHES + 1 {
         let kind = if number < TEACHES {
@@ -53,7 +56,7 @@ fn university(alloc: Global) -> Result<Rules, Fail> {
     }
     let teaches = RoleSide::Direct(Term(TEACHES));
     let taught = RoleSide::Inverse(Term(TEACHES));
-    let axioms = vec![in alloc;
+    let mut axioms = vec![in alloc;
         Axiom::ConceptIn(class(STAFF), class(PERSON)),
         Axiom::ConceptIn(class(PROF), class(STAFF)),
         Axiom::ConceptIn(class(STUDENT), class(PERSON)),
@@ -61,12 +64,32 @@ fn university(alloc: Global) -> Result<Rules, Fail> {
         Axiom::ConceptIn(Basic::Exists(teaches), class(PROF)),
         Axiom::ConceptIn(Basic::Exists(taught), class(COURSE)),
     ]?;
-    let ontology = Ontology::of(alloc, terms, axioms)?;
-    Ok(Rules::compile(alloc, &ontology)?)
+    axioms.append(&mut more)?;
+    Ok(Ontology::of(alloc, terms, axioms)?)
 }
 
 fn class(number: u32) -> Basic {
     Basic::Class(Term(number))
+}
+
+/// The ontology of the university in which these two classes are disjoint too, and its rules.
+pub fn with_apart(
+    rt: &impl Abort,
+    alloc: Global,
+    state: &State<PlainSet>,
+    one: u32,
+    other: u32,
+) -> Result<(Arc<Ontology>, Arc<Rules>), Fail>
+    ensures ontology { IfOk result (λ it. IsOntology (arc_value it.0)) }
+    ensures extends { IfOk result (λ it. Extends (arc_value it.0) (in_force state.now.opening state.now.entries)) }
+    ensures compiled { IfOk result (λ it. arc_value it.1 ≡ arc_value it.0) }
+{
+    let apart = vec![in alloc; Axiom::ConceptApart(class(one), class(other))]?;
+    let ontology = university(alloc, apart)?;
+    let _terms = ontology.terms();
+    assert!(rt; ontology.extends(state.rules().ontology()));
+    let rules = Rules::compile(alloc, &ontology)?;
+    Ok((Arc::new(alloc, ontology)?, Arc::new(alloc, rules)?))
 }
 
 fn fact(alloc: Global, line: Line) -> Result<Fact, OutOfMemory> {
@@ -94,7 +117,8 @@ pub fn opened(
     lines: &[Line],
     limit: u64,
 ) -> Result<State<PlainSet>, Fail> {
-    let rules = Arc::new(alloc, university(alloc)?)?;
+    let ontology = university(alloc, Vec::new(alloc))?;
+    let rules = Arc::new(alloc, Rules::compile(alloc, &ontology)?)?;
     let opening: PlainSet = Versions::of(alloc, facts(alloc, lines)?)?;
     assert!(rt; rules.knows_all(opening.as_slice()));
     if let Some(clash) = first_clash(&rules, opening.as_slice()) {

@@ -1,52 +1,39 @@
 ghost use Rattle.std.specs.Prelude.{◌≡◌, ◌≤◌, ◌∷◌, [], Contains, IfOk, length, map};
 ghost use Rattle.std.specs.Arc.{arc_value};
 ghost use Rattle.dl_base.specs.Clash.{IsConsistent};
-ghost use Rattle.dl_base.specs.Histories.{IsLegal, IsVersion, in_force};
-ghost use Rattle.dl_base.specs.Ontologies.{Knows};
+ghost use Rattle.dl_base.specs.Histories.{IsLegal, IsVersion, in_force, in_force_at};
+ghost use Rattle.dl_base.specs.Ontologies.{Extends, Knows};
+ghost use Rattle.dl_base.specs.Validity.{IsOntology};
 ghost use Rattle.dl_base.specs.declared.statements.Fact as fact_type;
-ghost use Rattle.optimistic_commit.specs.States.{AreLastVersions};
+ghost use Rattle.serial_history.specs.Replacing.{ReplacesBy};
+ghost use Rattle.serial_history.specs.States.{AreLastVersions};
 
-use dl_base::{Entry, OutOfMemory, Versions};
-use history_entries::Entries;
+use dl_base::{Entry, Ontology, OutOfMemory, Versions};
+use serial_history::{History, Replacing};
 use std::alloc::Global;
 use std::marker::Model;
 use std::sync::Arc;
 use update_engine::Rules;
 
-/// A history that is committed to: its opening, the entries since, and the version that stands. Contracts see the opening ontology and facts, the
-/// limit, the entries, and the layers of the version. The entries are a legal history, at most as many as the limit, the version is what they
-/// make of the opening facts, and its layers are the last versions. So far no entry replaces the ontology.
+/// A history that is committed to. Contracts see the opening ontology and facts, the limit, the entries, and the layers of the version. The
+/// entries are a legal history, at most as many as the limit, the version is what they make of the opening facts, and its layers are the last
+/// versions.
 pub struct State<V: Versions> {
-    pub(crate) alloc: Global,
-    pub(crate) rules: Arc<Rules>,
-    pub(crate) opening: V,
-    pub(crate) limit: u64,
-    pub(crate) entries: Entries,
-    pub(crate) version: V,
+    pub(crate) history: History<V>,
 }
 
 impl<V: Versions> Model for State<V> {
-    ghost use Rattle.std.specs.Arc.{arc_value};
-    ghost use Rattle.optimistic_commit.specs.States.{Seen, IsKept};
+    ghost use Rattle.serial_history.specs.States.{Seen};
 
     ghost Value = { Seen };
 
-    ghost view = { λ s. record { opening = arc_value s.rules; facts = V.facts s.opening; limit = s.limit; entries = s.entries; layers = V.layers s.version } };
-
-    ghost invariant = { λ s. IsKept (arc_value s.rules) (V.facts s.opening) s.limit s.entries (V.facts s.version) (V.layers s.version) };
+    ghost view = { λ s. s.history };
 }
 
 impl<V: Versions + Drop> Drop for State<V> {
     // Written out, so that a caller's proof takes it as one call.
     fn drop(self) {
-        let State {
-            alloc: _alloc,
-            rules: _rules,
-            opening: _opening,
-            limit: _limit,
-            entries: _entries,
-            version: _version,
-        } = self;
+        let State { history: _history } = self;
     }
 }
 
@@ -65,17 +52,8 @@ impl<V: Versions + Drop> State<V> {
         requires one { V.layers opening ≡ V.facts opening ∷ [] }
         ensures { IfOk result (λ state. state ≡ record { opening = arc_value rules; facts = V.facts opening; limit = limit; entries = []; layers = V.facts opening ∷ [] }) }
     {
-        let _terms = rules.ontology().terms();
-        let _facts = opening.count();
-        let version = opening.share()?;
-        Ok(State {
-            alloc,
-            rules,
-            opening,
-            limit,
-            entries: Entries::new(alloc),
-            version,
-        })
+        let history = History::start(alloc, rules, opening, limit)?;
+        Ok(State { history })
     }
 
     /// How many entries there are.
@@ -83,14 +61,14 @@ impl<V: Versions + Drop> State<V> {
         ensures count { result ≡ length self.now.entries }
         ensures room { result ≤ self.now.limit }
     {
-        self.entries.len() as u64
+        self.history.length()
     }
 
     /// How many entries there may be.
     pub fn limit(&self) -> u64
         ensures { result ≡ self.now.limit }
     {
-        self.limit
+        self.history.limit()
     }
 
     /// The entries of the history, the oldest first.
@@ -98,7 +76,7 @@ impl<V: Versions + Drop> State<V> {
         ensures entries { map arc_value result.now ≡ self.now.entries }
         ensures legal { IsLegal self.now.opening self.now.facts self.now.entries }
     {
-        self.entries.as_slice()
+        self.history.entries()
     }
 
     /// The facts that stand after all entries.
@@ -109,13 +87,33 @@ impl<V: Versions + Drop> State<V> {
         ensures layers { V.layers result.now ≡ self.now.layers }
         ensures last { AreLastVersions self.now.facts self.now.entries self.now.layers }
     {
-        &self.version
+        self.history.version()
     }
 
-    /// The rules of the ontology in force.
+    /// The rules of the ontology in force now.
     pub fn rules(&self) -> &Arc<Rules>
         ensures { arc_value result.now ≡ in_force self.now.opening self.now.entries }
     {
-        &self.rules
+        self.history.rules()
+    }
+
+    /// The rules of the ontology in force at this version, which is at most the number of entries.
+    pub fn rules_at(&self, version: u64) -> &Arc<Rules>
+        requires { version ≤ length self.now.entries }
+        ensures { arc_value result.now ≡ in_force_at self.now.opening self.now.entries version }
+    {
+        self.history.rules_at(version)
+    }
+
+    /// Puts the ontology in force, by an entry of this editor that does nothing else: the stored facts stay. Refused in this order: at the limit
+    /// (`Full`); where a stored fact contradicts the new axioms by itself, with the least one (`Alone`); where two do together, with those at the
+    /// least places (`Pair`). All memory is taken before the state changes.
+    pub fn replace(&mut self, editor: u32, ontology: Arc<Ontology>, rules: Arc<Rules>) -> Replacing
+        requires ontology { IsOntology (arc_value ontology) }
+        requires extends { Extends (arc_value ontology) (in_force self.old.opening self.old.entries) }
+        requires compiled { arc_value rules ≡ arc_value ontology }
+        ensures { ReplacesBy self.old editor (arc_value ontology) result self.new }
+    {
+        self.history.replace(editor, ontology, rules)
     }
 }

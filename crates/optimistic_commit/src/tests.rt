@@ -1,5 +1,5 @@
 //! Two transactions that begin together, and one after the other.
-ghost use Rattle.optimistic_commit.specs.States.{IsReady};
+ghost use Rattle.serial_history.specs.States.{IsReady};
 
 use crate::publishing::Published;
 use crate::samples::{
@@ -14,14 +14,14 @@ use std::test::Fail;
 
 /// What a commit was answered: for a conflict the editor of the entry, for a full history the base and the number of requests that came back.
 #[derive(Debug, Clone, Copy, PartialEq, Eq)]
-enum Answer {
+pub enum Answer {
     Committed(u64),
     Conflict(Met, u32),
     Full(u64, usize),
     OutOfMemory,
 }
 
-fn answer_of(published: &Published) -> Answer {
+pub fn answer_of(published: &Published) -> Answer {
     match published {
         Published::Committed(number) => Answer::Committed(*number),
         Published::Conflict(met, entry) => Answer::Conflict(*met, entry.editor),
@@ -72,7 +72,7 @@ fn are_changed(
 }
 
 /// Whether the last entry changed these facts.
-fn last_changed(
+pub fn last_changed(
     alloc: Global,
     state: &State<PlainSet>,
     lines: &[(Line, bool)],
@@ -83,7 +83,7 @@ fn last_changed(
     }
 }
 
-const ANN_STUDIES: Lines = (&[(STUDENT, "ann", "")], &[]);
+pub const ANN_STUDIES: Lines = (&[(STUDENT, "ann", "")], &[]);
 
 const ANN_TEACHES: Lines = (&[(TEACHES, "ann", "cs1")], &[]);
 

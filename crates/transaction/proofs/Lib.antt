@@ -1,7 +1,6 @@
-pub mod EntryLaws
-pub mod MarkLaws
-pub mod PlanLaws
-pub mod WorldLaws
-pub mod RunEndLaws
+pub mod BegunLaws
 pub mod EffectLaws
+pub mod ReplaceLaws
+pub mod RunEndLaws
 pub mod ServeLaws
+pub mod WorldLaws

@@ -86,6 +86,7 @@ module _ (theory : Theory) (base : List Fact) (requests : List Request) (stored 
         → IsServed seen r reply (record { ontology = theory; number = number; base = base; requests = more r; stored = new })
     served r reply new w s = record {
       room = room;
+      ran = (so_far.makes.replies, so_far.makes.run);
       well = w;
       serves = s;
       goes_on = λ replies q. goes_on theory.axioms q r reply new s;

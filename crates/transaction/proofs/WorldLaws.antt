@@ -1,263 +1,217 @@
 -- What the core's events do, over plain values.
-use Rattle.std.proofs.Common.{◌≡◌, ◌≢◌, ◌↔◌, ℕ, ◌<◌, ◌≤◌, ◌+◌, List, [], ◌∷◌, ◌++◌, Option, Some, None, length, refl, sym, ◌∙◌, ap, subst, arith}
-use Rattle.std.specs.Prelude.{All, Contains, take}
-use Rattle.std.specs.Arc.{arc_value}
-use Rattle.std.specs.Option.{option_map}
+use Rattle.std.proofs.Common.{◌≡◌, ℕ, ◌<◌, ◌≤◌, ◌+◌, List, [], ◌∷◌, ◌++◌, Some, None, length, take, refl, sym, ◌∙◌, ap, subst, inl, inr, ⊎_elim, arith}
+use Rattle.std.specs.Prelude.{Result, Ok, Err, IfOk, OnErr, map, slice_get, slice_set}
+use Rattle.std.specs.List.{remove}
 use Rattle.std.proofs.Math.Seq.{take-length}
-use Rattle.std.proofs.lemmas.List.{length-append}
-use Rattle.dl_base.specs.Validity.{IsOntology}
-use Rattle.dl_base.proofs.ClashLaws.{clash_more}
-use Rattle.std.proofs.lemmas.List.Elements.{All-cons, All-nil}
-use Rattle.std.proofs.lemmas.Option.{same_Some}
-use Rattle.dl_base.specs.declared.statements.Fact.{Fact}
-use Rattle.dl_base.specs.declared.requests.Changed.{Changed}
+use Rattle.std.proofs.lemmas.List.{length-append, take-append-le, append-nil}
+use Rattle.std.proofs.lemmas.Option.{same_Some, slice_get_within}
+use Rattle.dl_base.specs.declared.memory.OutOfMemory.{OutOfMemory}
 use Rattle.dl_base.specs.declared.requests.Entry.{Entry}
-use Rattle.dl_base.specs.declared.requests.Request.TheVariants.{Change}
-use Rattle.dl_base.specs.Clash.{IsConsistent}
-use Rattle.dl_base.specs.Commits.{Outcome, IsOutcome, IsCommit}
+use Rattle.dl_base.specs.declared.requests.Request.{Request}
+use Rattle.dl_base.specs.declared.statements.Fact.{Fact}
 use Rattle.dl_base.specs.Commits as outcome
-use Rattle.dl_base.specs.FactOrder.{AreSorted}
-use Rattle.dl_base.specs.Histories.{IsVersion, HasChange, in_force, in_force_at, own, replacement, or_before}
-use Rattle.dl_base.specs.Ontologies.{Theory, Knows, KnowsRequest}
-use Rattle.dl_base.specs.Transactions.{Runs, done, then, Serves, IsAfter, IsChange, IsWell}
-use Rattle.dl_base.specs.Updates.{Lists, IsLost, IsWellFormed}
-use Rattle.dl_base.proofs.CommitLaws.{legal_after_commit}
-use Rattle.dl_base.proofs.HistoryLaws.{in_force_last, legal_is_consistent}
-use Rattle.dl_base.proofs.VersionLaws.{in_order}
-use Rattle.dl_base.proofs.Members.{here, there, nowhere}
-use Rattle.dl_base.proofs.StalenessLaws.{nothing_passed}
-use Rattle.transaction.specs.declared.events.Event.TheVariants as event
-use Rattle.transaction.specs.declared.events.Reply.TheVariants as reply
-use Rattle.transaction.specs.Plans.{Plan, IsPlan, IsKept, begun_of, requests_of}
-use Rattle.transaction.specs.Worlds.{Begun, State, HasNone, Has, StandsAt, StepsTo}
+use Rattle.dl_base.specs.Histories.{HasChange, IsVersion, in_force, in_force_at}
+use Rattle.dl_base.specs.Ontologies.{Theory, KnowsRequest}
+use Rattle.dl_base.specs.Transactions.{IsWell, Runs, Serves}
+use Rattle.dl_base.proofs.Places.{get_cases}
+use Rattle.serial_history.specs.Committing.{Continues}
+use Rattle.serial_history.specs.States.{Seen}
 use Rattle.update_engine.specs.declared.judging.IllFormed.{IllFormed}
 use Rattle.update_engine.specs.Judging.{IsNamed}
+use Rattle.transaction.specs.Holding.{Held, HoldsAt, IsPlaceOf, ServesAt, BeganIn, AllBeganIn, IsSameOpening, HasOutcome, IsCommitted, PublishesAt, begun_of}
+use Rattle.transaction.specs.Serving.{Open, IsServed}
+use Rattle.transaction.specs.Worlds.{Begun, State, Has, HasNone, HasOne, StandsAt, IsAnswered, IsFilled, IsIllFormed, Ends, Waits, StepsTo, of_editor, with_one, without, with_begun, recorded, ended, theory_of}
+use Rattle.transaction.specs.declared.events.Event.TheVariants as event
+use Rattle.transaction.specs.declared.events.Reply.{Reply}
+use Rattle.transaction.specs.declared.events.Reply.TheVariants as reply
+use Rattle.transaction.proofs.BegunLaws.{held, of_at, with_at, without_at, with_pushed, get_set, get_removed}
 
-pub pushed_length : (all entries : List Entry) (e : Entry) → all ≡ entries ++ e ∷ [] → length all ≡ length entries + 1
-pushed_length all entries e h = ap length h ∙ length-append entries (e ∷ [])
+-- the core as contracts see it
+abbrev pub state_of : Seen → List Held → State
+state_of s helds = record { opening = s.opening; facts = s.facts; limit = s.limit; entries = s.entries; begun = map begun_of helds }
 
--- the version after one entry more
-pub version_push : (facts : List Fact) (entries : List Entry) (e : Entry) (old v : List Fact) → IsVersion facts entries old → IsAfter old e.changed v → IsVersion facts (entries ++ e ∷ []) v
-version_push facts [] e old v h k = (v, subst (λ (fs : List Fact). IsAfter fs e.changed v) h k, refl)
-version_push facts (x ∷ entries) e old v h k = (h.0, h.1, version_push h.0 entries e old v h.2 k)
-
--- the entry that a commit of the plan makes
-pub record IsEntryOf (entries : List Entry) (plan : Plan) (e : Entry) : Type 0 where
-  pub editor_is : e.editor ≡ 0
-  pub number_is : e.number ≡ length (own 0 entries)
-  pub requests_are : e.requests ≡ requests_of (Some plan)
-  pub changed_are : e.changed ≡ plan.changed
-  pub none_replaced : e.replaced ≡ None
-
-module _ (theory : Theory) (facts : List Fact) (limit : ℕ) (entries : List Entry) (version : List Fact) (begun : Option (ℕ × Option Plan)) (kept : IsKept theory facts entries version begun) where
-  abbrev pub seen : State
-  seen = record { opening = theory; facts = facts; limit = limit; entries = entries; begun = begun_of begun }
-
-  -- the ontology in force at the base is the opening one
-  at_base : (base : ℕ) (plan : Option Plan) → begun ≡ Some (base, plan) → in_force_at theory entries base ≡ theory
-  at_base base plan e = ap (λ (es : List Entry). in_force theory es) (ap (λ n. take n entries) (kept.current base plan e) ∙ take-length entries) ∙ kept.force
-
-  version_at : (base : ℕ) (plan : Option Plan) → begun ≡ Some (base, plan) → IsVersion facts (take base entries) version
-  version_at base plan e = subst (λ (es : List Entry). IsVersion facts es version) (sym (ap (λ n. take n entries) (kept.current base plan e) ∙ take-length entries)) kept.stands
-
-  pub version_consistent : IsConsistent theory.axioms version
-  version_consistent = subst (λ (t : Theory). IsConsistent t.axioms version) kept.force (legal_is_consistent theory facts entries kept.legal version kept.stands)
-
-  pub version_known : (f : Fact) → Contains version f → Knows theory f
-  version_known f m = subst (λ (t : Theory). Knows t f) kept.force ((in_order theory facts entries kept.legal).1 version kept.stands f m)
-
-  pub no_transaction : begun ≡ None → HasNone seen 0
-  no_transaction e = λ b m. absurd (nowhere b (subst (λ (o : Option (ℕ × Option Plan)). Contains (begun_of o) b) e m))
-
-  pub has_it : (base : ℕ) (plan : Option Plan) → begun ≡ Some (base, plan) → Has seen 0 (record { editor = 0; base = base; requests = requests_of plan })
-  has_it base plan e = (
-    subst (λ (o : Option (ℕ × Option Plan)). Contains (begun_of o) (record { editor = 0; base = base; requests = requests_of plan })) (sym e) (here (record { editor = 0; base = base; requests = requests_of plan }) []),
-    refl,
-  )
-
-  pub begins : begun ≡ None → StepsTo seen (event.Begin 0) (reply.Begun (length entries)) (record { opening = theory; facts = facts; limit = limit; entries = entries; begun = begun_of (Some (length entries, None)) })
-  begins e = (
-    no_transaction e,
-    refl,
-    subst (λ (o : Option (ℕ × Option Plan)).
-        let t : State = record { opening = theory; facts = facts; limit = limit; entries = entries; begun = begun_of (Some (length entries, None)) } in
-        let s : State = record { opening = theory; facts = facts; limit = limit; entries = entries; begun = begun_of o } in
-        t ≡ Rattle.transaction.specs.Worlds.with_begun s (record { editor = 0; base = length entries; requests = [] })) (sym e) refl,
-  )
-
-  pub has_begun : (base : ℕ) (plan : Option Plan) → begun ≡ Some (base, plan) → StepsTo seen (event.Begin 0) reply.AlreadyBegun seen
-  has_begun base plan e = ((record { editor = 0; base = base; requests = requests_of plan }, has_it base plan e), refl)
-
-  pub no_change : (inserts deletes : List Fact) → begun ≡ None → StepsTo seen (event.Change 0 inserts deletes) reply.NoTransaction seen
-  no_change inserts deletes e = (no_transaction e, refl)
-
-  pub no_commit : begun ≡ None → StepsTo seen (event.Commit 0) reply.NoTransaction seen
-  no_commit e = (no_transaction e, refl)
-
-  pub names : (base : ℕ) (plan : Option Plan) (inserts deletes : List Fact) (name : IllFormed) → begun ≡ Some (base, plan) → IsNamed theory.axioms inserts deletes name
-      → StepsTo seen (event.Change 0 inserts deletes) (reply.IllFormed name) seen
-  names base plan inserts deletes name e h = (
-    (record { editor = 0; base = base; requests = requests_of plan }, has_it base plan e, subst (λ (t : Theory). IsNamed t.axioms inserts deletes name) (sym (at_base base plan e)) h),
-    refl,
-  )
-
-  -- a change of a transaction without one
-  pub serves : (base : ℕ) (plan : Plan) (lost : List Fact) → begun ≡ Some (base, None) → IsPlan theory version plan → Lists (IsLost theory.axioms version plan.next) lost
-      → StepsTo seen (event.Change 0 plan.inserts plan.deletes) (reply.Lost lost) (record { opening = theory; facts = facts; limit = limit; entries = entries; begun = begun_of (Some (base, Some plan)) })
-  serves base plan lost e p l =
-      let back = at_base base None e in
-      let b : Begun = record { editor = 0; base = base; requests = [] } in (
-        b,
-        has_it base None e,
-        (
-          version,
-          plan.next,
-          (version, [], version_at base None e, done version),
-          subst (λ (t : Theory). IsWellFormed t.axioms plan.inserts plan.deletes) (sym back) p.well,
-          subst (λ (t : Theory). Serves t.axioms (Change plan.inserts plan.deletes) version lost plan.next) (sym back) (p.stored, l),
-          subst (λ (o : Option (ℕ × Option Plan)).
-              let t : State = record { opening = theory; facts = facts; limit = limit; entries = entries; begun = begun_of (Some (base, Some plan)) } in
-              let s : State = record { opening = theory; facts = facts; limit = limit; entries = entries; begun = begun_of o } in
-              t ≡ Rattle.transaction.specs.Worlds.with_begun s (Rattle.transaction.specs.Worlds.recorded b (Change plan.inserts plan.deletes))) (sym e) refl,
-        ),
-      )
-
-  -- the plan is kept
-  pub keeps_plan : (base : ℕ) (plan : Plan) → begun ≡ Some (base, None) → IsPlan theory version plan → IsKept theory facts entries version (Some (base, Some plan))
-  keeps_plan base plan e p = record {
-    legal = kept.legal;
-    force = kept.force;
-    stands = kept.stands;
-    current = λ n q h. sym (ap (λ (t : ℕ × Option Plan). t.0) (same_Some (base, Some plan) (n, q) h)) ∙ kept.current base None e;
-    planned = λ n q h. subst (IsPlan theory version) (same_Some plan q (ap (λ (t : ℕ × Option Plan). t.1) (same_Some (base, Some plan) (n, Some q) h))) p;
-  }
-
-  abbrev pub NoPlan : Option (ℕ × Option Plan) → Type 0
-  NoPlan o = (base : ℕ) (plan : Plan) → o ≢ Some (base, Some plan)
-
-  -- no transaction, or one without a change, is kept at the last version
-  pub keeps_none : IsKept theory facts entries version None
-  keeps_none = record { legal = kept.legal; force = kept.force; stands = kept.stands; current = λ n q h. absurd (let no : ⊥ = cc in no); planned = λ n q h. absurd (let no : ⊥ = cc in no) }
-
-  pub keeps_begun : IsKept theory facts entries version (Some (length entries, None))
-  keeps_begun = record {
-    legal = kept.legal;
-    force = kept.force;
-    stands = kept.stands;
-    current = λ n q h. sym (ap (λ (t : ℕ × Option Plan). t.0) (same_Some (length entries, None) (n, q) h));
-    planned = λ n q h. let none : None ≡ Some q = ap (λ (t : ℕ × Option Plan). t.1) (same_Some (length entries, None) (n, Some q) h) in absurd (let no : ⊥ = cc in no);
-  }
-
-  pub read_only : (base : ℕ) → begun ≡ Some (base, None) → StepsTo seen (event.Commit 0) (reply.ReadOnly base) (record { opening = theory; facts = facts; limit = limit; entries = entries; begun = begun_of None })
-  read_only base e = (
-    record { editor = 0; base = base; requests = [] },
-    has_it base None e,
-    (
-      entries,
-      ((λ h. nowhere (Change h.0 h.1) h.2), refl, refl),
-      subst (λ (o : Option (ℕ × Option Plan)).
-          let t : State = record { opening = theory; facts = facts; limit = limit; entries = entries; begun = begun_of None } in
-          let s : State = record { opening = theory; facts = facts; limit = limit; entries = entries; begun = begun_of o } in
-          t ≡ Rattle.transaction.specs.Worlds.ended s 0 entries) (sym e) refl,
-    ),
-  )
-
-  changes : (plan : Plan) → HasChange (requests_of (Some plan))
-  changes plan = (plan.inserts, plan.deletes, here (Change plan.inserts plan.deletes) [])
-
-  pub is_full : (base : ℕ) (plan : Plan) → begun ≡ Some (base, Some plan) → limit ≤ length entries → StepsTo seen (event.Commit 0) (reply.HistoryFull limit) seen
-  is_full base plan e h = (
-    (record { editor = 0; base = base; requests = requests_of (Some plan) }, has_it base (Some plan) e, (changes plan, h, refl)),
-    refl,
-    refl,
-  )
-
-  module _ (base : ℕ) (plan : Plan) (e : begun ≡ Some (base, Some plan)) (entry : Entry) (is : IsEntryOf entries plan entry) where
-    planned : IsPlan theory version plan
-    planned = kept.planned base plan e
-
-    none_replaced : replacement entry ≡ None
-    none_replaced = ap (option_map arc_value) is.none_replaced
-
-    run_is : Runs (in_force theory entries).axioms version (requests_of (Some plan)) (planned.lost.0 ∷ []) plan.next
-    run_is = subst (λ (t : Theory). Runs t.axioms version (requests_of (Some plan)) (planned.lost.0 ∷ []) plan.next) (sym kept.force)
-        (then version plan.next plan.next (Change plan.inserts plan.deletes) [] planned.lost.0 [] (planned.stored, planned.lost.1) (done plan.next))
-
-    commit_is : IsCommit theory facts entries 0 (requests_of (Some plan)) entry
-    commit_is = record {
-      editor_is = is.editor_is;
-      number_is = is.number_is;
-      requests_are = is.requests_are;
-      replaces = none_replaced;
-      run = (version, plan.next, planned.lost.0 ∷ [], kept.stands, run_is, subst (λ (cs : List Changed). IsChange version plan.next cs) (sym is.changed_are) planned.change);
+-- what began at a version of a history began at one of a longer history
+pub began_grown : (s u : Seen) → IsSameOpening s u → (more : List Entry) → u.entries ≡ s.entries ++ more → (o : Open) → BeganIn s o → BeganIn u o
+began_grown s u so more grew o b =
+    let front : take o.number s.entries ≡ take o.number u.entries = sym (ap (take o.number) grew ∙ take-append-le o.number s.entries more b.base) in
+    let long = ap (λ (es : List Entry). length es) grew in
+    let sum = length-append s.entries more in
+    let base = b.base in
+    record {
+      base = omega (arith, long, sum, base);
+      force = b.force ∙ ap (λ (th : Theory). in_force th (take o.number s.entries)) (sym so.0) ∙ ap (in_force u.opening) front;
+      version = subst (λ (fs : List Fact). IsVersion fs (take o.number u.entries) o.base) (sym so.1) (subst (λ (es : List Entry). IsVersion s.facts es o.base) front b.version);
     }
 
-    outcome_is : (most : ℕ) → length entries < most → IsOutcome theory facts most entries 0 base (requests_of (Some plan)) (outcome.Committed (length entries + 1)) (entries ++ entry ∷ [])
-    outcome_is most h = (
-      changes plan,
-      h,
-      nothing_passed (in_force_at theory entries base).axioms entries (requests_of (Some plan)) base (let same = kept.current base (Some plan) e in omega (arith, same)),
-      refl,
-      (entry, commit_is, refl),
-    )
+pub all_grown : (s u : Seen) → IsSameOpening s u → (more : List Entry) → u.entries ≡ s.entries ++ more → (helds : List Held) → AllBeganIn s helds → AllBeganIn u helds
+all_grown s u so more grew helds began p h e = began_grown s u so more grew h.transaction (began p h e)
 
-    pub committed : length entries < limit → StepsTo seen (event.Commit 0) (reply.Committed (length entries + 1)) (record { opening = theory; facts = facts; limit = limit; entries = entries ++ entry ∷ []; begun = begun_of None })
-    committed h = (
-      record { editor = 0; base = base; requests = requests_of (Some plan) },
-      has_it base (Some plan) e,
-      (
-        entries ++ entry ∷ [],
-        outcome_is limit h,
-        subst (λ (o : Option (ℕ × Option Plan)).
-            let t : State = record { opening = theory; facts = facts; limit = limit; entries = entries ++ entry ∷ []; begun = begun_of None } in
-            let s : State = record { opening = theory; facts = facts; limit = limit; entries = entries; begun = begun_of o } in
-            t ≡ Rattle.transaction.specs.Worlds.ended s 0 (entries ++ entry ∷ [])) (sym e) refl,
-      ),
-    )
+pub same_opening : (s u : Seen) → u ≡ s → IsSameOpening s u
+same_opening s u e = (ap (λ (x : Seen). x.opening) e, ap (λ (x : Seen). x.facts) e, ap (λ (x : Seen). x.limit) e)
 
-    all_well : All (IsWell (in_force_at theory entries base).axioms) (requests_of (Some plan))
-    all_well = subst (λ (t : Theory). All (IsWell t.axioms) (requests_of (Some plan))) (sym (at_base base (Some plan) e)) (All-cons (IsWell theory.axioms) (Change plan.inserts plan.deletes) [] planned.well (All-nil (IsWell theory.axioms)))
+-- a history that goes on has the opening and the limit that it had
+pub continued : (s u : Seen) → Continues s u → IsSameOpening s u
+continued s u h = (ap (λ (x : Seen). x.opening) h.3, ap (λ (x : Seen). x.facts) h.3, ap (λ (x : Seen). x.limit) h.3)
 
-    all_known : All (KnowsRequest (in_force_at theory entries base)) (requests_of (Some plan))
-    all_known = subst (λ (t : Theory). All (KnowsRequest t) (requests_of (Some plan))) (sym (at_base base (Some plan) e)) (All-cons (KnowsRequest theory) (Change plan.inserts plan.deletes) [] planned.known (All-nil (KnowsRequest theory)))
+module _ (s : Seen) (helds : List Held) (began : AllBeganIn s helds) (editor place : ℕ) (is : IsPlaceOf editor helds place) where
+  abbrev pub t : Open
+  t = is.0.0
 
-    -- after the commit a legal history is kept
-    pub keeps_committed : IsKept theory facts (entries ++ entry ∷ []) plan.next None
-    keeps_committed = record {
-      legal = legal_after_commit theory facts (length entries + 1) entries 0 base (requests_of (Some plan)) (outcome.Committed (length entries + 1)) (entries ++ entry ∷ []) kept.legal (omega arith, omega arith) all_well all_known
-          (outcome_is (length entries + 1) (omega arith));
-      force = in_force_last theory entries entry ∙ ap (λ (o : Option Theory). or_before o (in_force theory entries)) none_replaced ∙ kept.force;
-      stands = version_push facts entries entry version plan.next kept.stands (planned.stored.sorted, subst (λ (cs : List Changed). IsChange version plan.next cs) (sym is.changed_are) planned.change);
-      current = λ n q h. absurd (let no : ⊥ = cc in no);
-      planned = λ n q h. absurd (let no : ⊥ = cc in no);
+  pub at : slice_get helds place ≡ Some (held editor t)
+  at = is.0.1
+
+  abbrev pub own : Begun
+  own = begun_of (held editor t)
+
+  pub has : Has (state_of s helds) editor own
+  has = of_at editor helds place t at is.1
+
+  began_here : BeganIn s t
+  began_here = began place (held editor t) at
+
+  force : t.ontology ≡ theory_of (state_of s helds) own
+  force = began_here.force
+
+  same : (h : Held) → slice_get helds place ≡ Some h → h ≡ held editor t
+  same h e = same_Some h (held editor t) (sym e ∙ at)
+
+  pub same_at : (o : Open) → HoldsAt helds place o → t ≡ o
+  same_at o h = sym (ap (λ (x : Held). x.transaction) (same h.0 h.1)) ∙ h.2
+
+  -- what is known of the editor's transaction is known of the one at its place
+  pub knows_at : (r : Request) → ((b : Begun) → Has (state_of s helds) editor b → KnowsRequest (theory_of (state_of s helds) b) r) → (h : Held) → slice_get helds place ≡ Some h → KnowsRequest h.transaction.ontology r
+  knows_at r known h e = subst (λ (x : Held). KnowsRequest x.transaction.ontology r) (sym (same h e)) (subst (λ (th : Theory). KnowsRequest th r) (sym force) (known own has))
+
+  -- its ontology is the one of its base
+  pub rules_at : (o : Open) → HoldsAt helds place o → (b : Begun) → Has (state_of s helds) editor b → o.ontology ≡ theory_of (state_of s helds) b
+  rules_at o h b e = ap (λ (x : Open). x.ontology) (sym (same_at o h)) ∙ force ∙ ap (λ (x : Begun). theory_of (state_of s helds) x) (same_Some own b (sym has ∙ e))
+
+  pub not_none : HasNone (state_of s helds) editor → ⊥
+  not_none none = let e = sym has ∙ none in cc
+
+  module _ (request : Request) (told : List Fact) (new : List Held) (h : ServesAt helds place request told new) where
+    abbrev Served : Held → Type 0
+    Served x = IsServed x.transaction request told h.1 × (new ≡ slice_set helds place (record { editor = x.editor; transaction = h.1 }))
+
+    served : Served (held editor t)
+    served = subst Served (same h.0 h.2) (h.3, h.4)
+
+    stepped : state_of s new ≡ with_begun (state_of s helds) (recorded own request)
+    stepped =
+        let begun : map begun_of new ≡ with_one (recorded own request) (map begun_of helds) =
+        ap (map begun_of) served.1
+        ∙ with_at editor helds place t h.1 at is.1
+        ∙ ap (λ (o : Open). with_one (begun_of (held editor o)) (map begun_of helds)) served.0.recorded in
+        λ i. record { opening = s.opening; facts = s.facts; limit = s.limit; entries = s.entries; begun = begun i }
+
+    pub answered : IsAnswered (state_of s helds) editor request told (state_of s new)
+    answered =
+        let ran : Runs (theory_of (state_of s helds) own).axioms t.base t.requests served.0.ran.0 t.stored = subst (λ (th : Theory). Runs th.axioms t.base t.requests served.0.ran.0 t.stored) force served.0.ran.1 in
+        let stands : StandsAt (state_of s helds) own t.stored = (t.base, served.0.ran.0, began_here.version, ran) in
+        let serves : Serves (theory_of (state_of s helds) own).axioms request t.stored told h.1.stored = subst (λ (th : Theory). Serves th.axioms request t.stored told h.1.stored) force served.0.serves in
+        (own, has, served.0.room, subst (λ (th : Theory). IsWell th.axioms request) force served.0.well, (t.stored, h.1.stored, stands, serves), stepped)
+
+    after_began : BeganIn s h.1
+    after_began = subst (BeganIn s) (sym served.0.recorded) (record { base = began_here.base; force = began_here.force; version = began_here.version })
+
+    pub began_served : AllBeganIn s new
+    began_served p x e = ⊎_elim
+        (λ (k : held editor h.1 ≡ x). subst (λ (y : Held). BeganIn s y.transaction) k after_began)
+        (λ (k : slice_get helds p ≡ Some x). began p x k)
+        (get_set helds place p (held editor h.1) x (subst (λ (hs : List Held). slice_get hs p ≡ Some x) served.1 e))
+
+  pub filled : ((h : Held) → slice_get helds place ≡ Some h → length h.transaction.requests ≡ 10000) → IsFilled (state_of s helds) editor
+  filled full = (own, has, full (held editor t) at)
+
+  pub ill_formed : (inserts deletes : List Fact) (name : IllFormed) → ((h : Held) → slice_get helds place ≡ Some h → (length h.transaction.requests < 10000) × IsNamed h.transaction.ontology.axioms inserts deletes name)
+      → IsIllFormed (state_of s helds) editor inserts deletes name
+  ill_formed inserts deletes name ill =
+      let n = ill (held editor t) at in
+      (own, has, n.0, subst (λ (th : Theory). IsNamed th.axioms inserts deletes name) force n.1)
+
+  module _ (u : Seen) (so : IsSameOpening s u) (new : List Held) (gone : new ≡ remove helds place) where
+    pub ended_at : state_of u new ≡ ended (state_of s helds) editor u.entries
+    ended_at =
+        let begun : map begun_of new ≡ without editor (map begun_of helds) = ap (map begun_of) gone ∙ without_at editor helds place t at is.1 in
+        λ i. record { opening = so.0 i; facts = so.1 i; limit = so.2 i; entries = u.entries; begun = begun i }
+
+    pub began_removed : AllBeganIn s new
+    began_removed p x e = let there = get_removed helds place p x (subst (λ (hs : List Held). slice_get hs p ≡ Some x) gone e) in began there.0 x there.1
+
+  pub aborted : (new : List Held) → new ≡ remove helds place → HasOne (state_of s helds) editor × (state_of s new ≡ ended (state_of s helds) editor s.entries)
+  aborted new gone = ((own, has), ended_at s (refl, refl, refl) new gone)
+
+  pub read_only : (o : Open) → HoldsAt helds place o → (HasChange o.requests → ⊥) → (q : Open) → HoldsAt helds place q → (n : ℕ) → n ≡ q.number → (new : List Held) → new ≡ remove helds place
+      → Ends (state_of s helds) editor (outcome.ReadOnly n) (state_of s new)
+  read_only o h none q k n number new gone =
+      let quiet : HasChange t.requests → ⊥ = subst (λ (x : Open). HasChange x.requests → ⊥) (sym (same_at o h)) none in
+      let base : n ≡ t.number = number ∙ ap (λ (x : Open). x.number) (sym (same_at q k)) in
+      (own, has, (s.entries, (quiet, base, refl), ended_at s (refl, refl, refl) new gone))
+
+  pub full : (o : Open) → HoldsAt helds place o → HasChange o.requests → s.limit ≤ length s.entries → Waits (state_of s helds) editor outcome.HistoryFull (state_of s helds)
+  full o h change room = ((own, has, (subst (λ (x : Open). HasChange x.requests) (sym (same_at o h)) change, room, refl)), refl)
+
+  -- a change that is seen at the place is one of what is held there
+  pub changes_at : (o : Open) → HoldsAt helds place o → HasChange o.requests → (h : Held) → slice_get helds place ≡ Some h → HasChange h.transaction.requests
+  changes_at o k change h e = subst (λ (x : Open). HasChange x.requests) (sym (same_at o k) ∙ ap (λ (x : Held). x.transaction) (sym (same h e))) change
+
+  module _ (u : Seen) (new : List Held) (gone : new ≡ remove helds place) where
+    committed_own : (answer : Reply) → PublishesAt s helds place answer u → IsCommitted s editor t answer u
+    committed_own answer h = subst (λ (x : Held). IsCommitted s x.editor x.transaction answer u) (same h.0 h.1) h.2
+
+    pub commit_steps : (answer : Reply) → PublishesAt s helds place answer u → StepsTo (state_of s helds) (event.Commit editor) answer (state_of u new)
+    commit_steps (reply.Committed n) h =
+        let c = committed_own (reply.Committed n) h in
+        (own, has, (u.entries, c.0, ended_at u c.1 new gone))
+    commit_steps (reply.Conflict met) h =
+        let c = committed_own (reply.Conflict met) h in
+        (own, has, (u.entries, c.0, ended_at u (same_opening s u c.1) new gone))
+    commit_steps _ h = absurd h.2
+
+    pub began_committed : (answer : Reply) → PublishesAt s helds place answer u → AllBeganIn u new
+    began_committed (reply.Committed n) h =
+        let c = committed_own (reply.Committed n) h in
+        all_grown s u c.1 (c.0.4.0 ∷ []) c.0.4.2 new (began_removed s (refl, refl, refl) new gone)
+    began_committed (reply.Conflict met) h =
+        let c = committed_own (reply.Conflict met) h in
+        subst (λ (x : Seen). AllBeganIn x new) (sym c.1) (began_removed s (refl, refl, refl) new gone)
+    began_committed _ h = absurd h.2
+
+  -- after a commit or where memory was refused
+  module _ (u : Seen) (new : List Held) where
+    pub began_after : (r : Result Reply OutOfMemory) → IfOk r (λ answer. PublishesAt s helds place answer u × (new ≡ remove helds place)) → OnErr r ((new ≡ helds) × (u ≡ s)) → AllBeganIn u new
+    began_after (Ok answer) ok same = began_committed u new ok.1 answer ok.0
+    began_after (Err e) ok same = subst (λ (x : Seen). AllBeganIn x new) (sym same.1) (subst (AllBeganIn s) (sym same.0) began)
+
+    pub stepped_after : (r : Result Reply OutOfMemory) → IfOk r (λ answer. PublishesAt s helds place answer u × (new ≡ remove helds place)) → IfOk r (λ answer. StepsTo (state_of s helds) (event.Commit editor) answer (state_of u new))
+    stepped_after (Ok answer) ok = commit_steps u new ok.1 answer ok.0
+    stepped_after (Err e) ok = tt
+
+  pub within : place < length helds
+  within = slice_get_within helds place (held editor t) at
+
+module _ (s : Seen) (helds : List Held) (began : AllBeganIn s helds) (editor : ℕ) (none : of_editor editor (map begun_of helds) ≡ None) where
+  module _ (o : Open) (ontology : o.ontology ≡ in_force s.opening s.entries) (number : o.number ≡ length s.entries) (version : IsVersion s.facts s.entries o.base) (empty : o.requests ≡ [])
+      (new : List Held) (pushed : new ≡ helds ++ held editor o ∷ []) where
+    pub begins : (n : ℕ) → n ≡ o.number → StepsTo (state_of s helds) (event.Begin editor) (reply.Begun n) (state_of s new)
+    begins n e =
+        let fresh : Begun = record { editor = editor; base = n; requests = [] } in
+        let same : begun_of (held editor o) ≡ fresh = λ i. record { editor = editor; base = (sym e) i; requests = empty i } in
+        let begun : map begun_of new ≡ with_one fresh (map begun_of helds) = ap (map begun_of) pushed ∙ with_pushed editor helds o none ∙ ap (λ (b : Begun). with_one b (map begun_of helds)) same in
+        (none, e ∙ number, λ i. record { opening = s.opening; facts = s.facts; limit = s.limit; entries = s.entries; begun = begun i })
+
+    whole : s.entries ≡ take o.number s.entries
+    whole = sym (ap (λ (n : ℕ). take n s.entries) number ∙ take-length s.entries)
+
+    now : BeganIn s o
+    now = record {
+      base = omega (arith, number);
+      force = ontology ∙ ap (in_force s.opening) whole;
+      version = subst (λ (es : List Entry). IsVersion s.facts es o.base) whole version;
     }
 
--- the opening facts by themselves are a legal history
-pub starts : (theory : Theory) (given facts version : List Fact) → IsOntology theory → IsConsistent theory.axioms given → ((f : Fact) → Contains given f → Knows theory f)
-    → AreSorted version → ((f : Fact) → Contains version f ↔ Contains given f) → facts ≡ version → IsKept theory facts [] version None
-starts theory given facts version ontology consistent known sorted same is = record {
-  legal = record {
-    ontology = ontology;
-    sorted = subst AreSorted (sym is) sorted;
-    known = subst (λ (fs : List Fact). All (Knows theory) fs) (sym is) (known_all version (λ f m. known f ((same f).0 m)));
-    consistent = subst (IsConsistent theory.axioms) (sym is) (λ clash. consistent (clash_more theory.axioms version given (λ f m. (same f).0 m) clash));
-    each = λ n e h. absurd (let no : ⊥ = cc in no);
-  };
-  force = refl;
-  stands = sym is;
-  current = λ n q h. absurd (let no : ⊥ = cc in no);
-  planned = λ n q h. absurd (let no : ⊥ = cc in no);
-}
-  where
-    known_all : (fs : List Fact) → ((f : Fact) → Contains fs f → Knows theory f) → All (Knows theory) fs
-    known_all [] h = All-nil (Knows theory)
-    known_all (f ∷ fs) h = All-cons (Knows theory) f fs (h f (here f fs)) (known_all fs (λ g m. h g (there f fs g m)))
-
--- a transaction without requests has no change
-pub no_plan : (plan : Option Plan) → requests_of plan ≡ [] → plan ≡ None
-no_plan None h = refl
-no_plan (Some plan) h = absurd (let no : ⊥ = cc in no)
-
-pub version_sorted : (facts : List Fact) (entries : List Entry) (v : List Fact) → AreSorted facts → IsVersion facts entries v → AreSorted v
-version_sorted facts [] v h is = subst AreSorted (sym is) h
-version_sorted facts (e ∷ entries) v h is = version_sorted is.0 entries v is.1.0 is.2
+    pub began_begun : AllBeganIn s new
+    began_begun p x e = ⊎_elim
+        (λ (k : slice_get helds p ≡ Some x). began p x k)
+        (λ (k : (p ≡ length helds) × (held editor o ≡ x)). subst (λ (y : Held). BeganIn s y.transaction) k.1 now)
+        (get_cases helds (held editor o) p x (subst (λ (hs : List Held). slice_get hs p ≡ Some x) pushed e))

@@ -1,5 +1,4 @@
 pub mod Effects
-pub mod Marks
-pub mod Plans
+pub mod Holding
 pub mod Serving
 pub mod Worlds

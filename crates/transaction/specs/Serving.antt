@@ -54,6 +54,7 @@ GoesOn old reply new = (replies : List (List Fact)) → Runs old.ontology.axioms
 -- the request is served from the stored facts, and is recorded
 pub record IsServed (old : Open) (request : Request) (reply : List Fact) (new : Open) : Type 0 where
   pub room : length old.requests < 10000
+  pub ran : (replies : List (List Fact)) × Runs old.ontology.axioms old.base old.requests replies old.stored
   pub well : IsWell old.ontology.axioms request
   pub serves : Serves old.ontology.axioms request old.stored reply new.stored
   pub goes_on : GoesOn old reply new

@@ -1,10 +1,10 @@
-//! The pure core: editors begin transactions, change facts and commit, and what is committed is one serial history.
+//! The pure core: editors begin transactions, ask, change facts and commit, and replace the ontology; what comes of it is one serial history.
 #![tactic(auto)]
 
 mod bases;
-mod changes;
+mod begun;
+mod committing;
 mod effects;
-mod entries;
 mod events;
 mod refusals;
 mod requests;

@@ -21,24 +21,30 @@ pub const HEAD_OF: u32 = 6;
 /// A fact: its term, its subject, and its object, which a class fact leaves empty.
 pub type Line = (u32, &'static str, &'static str);
 
-/// Staff are persons and professors are staff, students are persons and no staff; who teaches is a professor, and what is taught is a
-/// course. One heads one thing, and nothing heads itself.
+/// The rules of the university.
 pub fn university(alloc: Global) -> Result<Rules, Fail> {
+    Ok(Rules::compile(alloc, &university_with(alloc, None)?)?)
+}
+
+/// Staff are persons and professors are staff, and no student is staff; who teaches is a professor, and what is taught is a course. One
+/// heads one thing, and nothing heads itself. One axiom may come on top.
+pub fn university_with(alloc: Global, more: Option<Axiom>) -> Result<Ontology, Fail> {
     let teaches = RoleSide::Direct(Term(TEACHES));
     let taught = RoleSide::Inverse(Term(TEACHES));
     let head_of = RoleSide::Direct(Term(HEAD_OF));
-    let axioms = vec![in alloc;
+    let mut axioms = vec![in alloc;
         Axiom::ConceptIn(class(STAFF), class(PERSON)),
         Axiom::ConceptIn(class(PROF), class(STAFF)),
-        Axiom::ConceptIn(class(STUDENT), class(PERSON)),
         Axiom::ConceptApart(class(STUDENT), class(STAFF)),
         Axiom::ConceptIn(Basic::Exists(teaches), class(PROF)),
         Axiom::ConceptIn(Basic::Exists(taught), class(COURSE)),
         Axiom::FunctionalRole(head_of),
         Axiom::RoleApart(head_of, RoleSide::Inverse(Term(HEAD_OF))),
     ]?;
-    let ontology = Ontology::of(alloc, terms(alloc)?, axioms)?;
-    Ok(Rules::compile(alloc, &ontology)?)
+    if let Some(axiom) = more {
+        axioms.push(axiom)?;
+    }
+    Ok(Ontology::of(alloc, terms(alloc)?, axioms)?)
 }
 
 fn terms(alloc: Global) -> Result<Vec<(Name, Kind)>, OutOfMemory> {
@@ -55,7 +61,8 @@ fn terms(alloc: Global) -> Result<Vec<(Name, Kind)>, OutOfMemory> {
     Ok(terms)
 }
 
-fn class(number: u32) -> Basic {
+/// The class of this number.
+pub fn class(number: u32) -> Basic {
     Basic::Class(Term(number))
 }
 

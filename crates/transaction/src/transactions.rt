@@ -6,6 +6,7 @@ ghost use Rattle.dl_base.specs.Ontologies.{Knows, KnowsPattern, KnowsRequest};
 ghost use Rattle.dl_base.specs.Transactions.{IsWell, Runs};
 ghost use Rattle.dl_base.specs.declared.requests.Request.TheVariants as asked;
 ghost use Rattle.dl_base.specs.declared.statements.Fact as fact_type;
+ghost use Rattle.read_patterns.specs.Effects.{AreEffects};
 ghost use Rattle.transaction.specs.Serving.{BelongTo, IsServed};
 ghost use Rattle.transaction.specs.declared.refusals.TxRefusal.TheVariants as refusal;
 ghost use Rattle.update_engine.specs.Judging.{IsNamed};
@@ -212,6 +213,7 @@ impl<V: Versions + Drop> Transaction<V> {
         ensures number { result.1.base ≡ self.number }
         ensures requests { result.1.recorded ≡ self.requests }
         ensures belong { BelongTo result.0 result.1 }
+        ensures effects { AreEffects self.ontology.axioms self.base result.1.recorded result.1.added.items result.1.removed.items }
     {
         let Transaction {
             alloc,

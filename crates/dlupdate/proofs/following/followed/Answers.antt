@@ -8,7 +8,7 @@ use Rattle.dlupdate.specs.Texts as text
 use Rattle.dlupdate.specs.declared.reports.Stop.{Stop}
 use Rattle.dlupdate.specs.declared.reports.Stop.TheVariants as stop
 use Rattle.dl_base.specs.declared.statements.Fact.{Fact}
-use Rattle.dlupdate.proofs.FollowingLaws.{AtUpdate, starts_at, idle_at, opening_at, goes_on, ends_at, stops_at, name_at, no_name}
+use Rattle.dlupdate.proofs.FollowingLaws.{AtUpdate, starts_at, idle_at, force_at, goes_on, ends_at, stops_at, name_at, no_name}
 use Rattle.dlupdate.proofs.following.followed.Goals as goal
 
 pub start-requires-clause-consistent : goal.start-requires-clause-consistent
@@ -21,8 +21,8 @@ loop-number-init g c =
 pub part-requires-clause-idle : goal.part-requires-clause-idle
 part-requires-clause-idle g c = idle_at (g.F.Files.contents c.args.files.now) c.args.opened.ontology (head_of c.args.numbered) c.args.opened.facts.items (words_of c.args.updates.now) c.loop-number.world c.loop-number.number c.loop-number.text.items c.loop-number.invariant.0
 
-pub part-requires-clause-opening : goal.part-requires-clause-opening
-part-requires-clause-opening g c = opening_at (g.F.Files.contents c.args.files.now) c.args.opened.ontology (head_of c.args.numbered) c.args.opened.facts.items (words_of c.args.updates.now) c.loop-number.world c.loop-number.number c.loop-number.text.items c.loop-number.invariant.0
+pub part-requires-clause-force : goal.part-requires-clause-force
+part-requires-clause-force g c = force_at (g.F.Files.contents c.args.files.now) c.args.opened.ontology (head_of c.args.numbered) c.args.opened.facts.items (words_of c.args.updates.now) c.loop-number.world c.loop-number.number c.loop-number.text.items c.loop-number.invariant.0
 
 pub loop-number-preserved : goal.loop-number-preserved
 loop-number-preserved g c =

@@ -1,55 +1,62 @@
-use Rattle.std.proofs.Common.{◌≡◌, List, Option, Some, None, sym, ◌∙◌, ap, subst}
-use Rattle.std.specs.Arc.{arc_value}
+use Rattle.std.proofs.Common.{◌≡◌, Err, List, refl, sym, ◌∙◌, ap, subst}
+use Rattle.std.specs.Prelude.{All}
+use Rattle.dl_base.specs.Ontologies.{Knows}
+use Rattle.dl_base.specs.declared.requests.Request.{Request}
+use Rattle.dl_base.specs.declared.requests.Request.TheVariants as asked
 use Rattle.dl_base.specs.declared.statements.Fact.{Fact}
-use Rattle.dl_base.specs.Clash.{IsConsistent}
-use Rattle.dl_base.specs.Ontologies.{Theory, Knows}
-use Rattle.dl_base.specs.Updates.{Lists, IsLost}
-use Rattle.update_engine.specs.Judging.{IsNamed}
+use Rattle.transaction.specs.Holding.{AllBeganIn}
+use Rattle.transaction.specs.Worlds.{State, IsAnswered, IsFilled, IsIllFormed, KnowsEvent}
 use Rattle.transaction.specs.declared.events.Event.TheVariants as event
-use Rattle.transaction.specs.declared.events.Reply.TheVariants as reply
-use Rattle.transaction.specs.Plans.{Plan, IsPlan, begun_of, requests_of}
-use Rattle.transaction.specs.Worlds.{State, Begun, Has, StepsTo}
-use Rattle.transaction.proofs.WorldLaws.{version_consistent, version_known, has_it, no_plan, serves, names}
+use Rattle.transaction.proofs.WorldLaws.{state_of, knows_at, answered, began_served, filled, ill_formed}
 use Rattle.transaction.proofs.worlds.World.change.Goals as goal
 
-pub planned-requires-clause-consistent : goal.planned-requires-clause-consistent
-planned-requires-clause-consistent g c =
+pub change-requires-clause-known : goal.change-requires-clause-known
+change-requires-clause-known g c = λ h e.
     let w = c.self.inside in
-    subst (λ (t : Theory). IsConsistent t.axioms (g.V.FactSet.facts w.version)) (sym c.deref.ensures)
-    (version_consistent (arc_value w.rules) (g.V.FactSet.facts w.opening) w.limit w.entries (g.V.FactSet.facts w.version) w.begun c.self.invariant)
+    let known = knows_at w.history w.begun c.self.invariant c.args.editor c.in-Some.place c.in-Some.ensures.found (asked.Change c.args.inserts c.args.deletes)
+    (subst (λ (s : State). KnowsEvent s (event.Change c.args.editor c.args.inserts c.args.deletes)) (sym c.self.view_is) c.requires) h e in
+    subst (λ (fs : List Fact). All (Knows h.transaction.ontology) fs × All (Knows h.transaction.ontology) c.as_slice-2.result.now) (sym c.as_slice.ensures)
+    (subst (λ (fs : List Fact). All (Knows h.transaction.ontology) c.args.inserts × All (Knows h.transaction.ontology) fs) (sym c.as_slice-2.ensures) known)
 
-pub planned-requires-clause-known : goal.planned-requires-clause-known
-planned-requires-clause-known g c = λ f m.
+pub invariant_of-self : goal.invariant_of-self
+invariant_of-self g c =
     let w = c.self.inside in
-    subst (λ (t : Theory). Knows t f) (sym c.deref.ensures)
-    (version_known (arc_value w.rules) (g.V.FactSet.facts w.opening) w.limit w.entries (g.V.FactSet.facts w.version) w.begun c.self.invariant f m)
+    began_served w.history w.begun c.self.invariant c.args.editor c.in-Some.place c.in-Some.ensures.found (asked.Change c.as_slice.result.now c.as_slice-2.result.now) c.in-Ok.lost.items c.change.new.self c.in-Ok.ensures.ok
 
 pub returns-in-Ok-clause-ok : goal.returns-in-Ok-clause-ok
 returns-in-Ok-clause-ok g c =
     let w = c.self.inside in
-    let theory = arc_value w.rules in
-    let facts = g.V.FactSet.facts w.opening in
-    let version = g.V.FactSet.facts w.version in
-    let plan = c.in-Ok.plan in
-    let made = c.in-Ok.ensures.ok in
-    let seen : State = record { opening = theory; facts = facts; limit = w.limit; entries = w.entries; begun = begun_of w.begun } in
-    let after : State = record { opening = theory; facts = facts; limit = w.limit; entries = w.entries; begun = begun_of (Some (c.in-Some.base, Some plan)) } in
-    let it : Begun = record { editor = 0; base = c.in-Some.base; requests = requests_of c.in-Some.field-0-1 } in
-    let has = has_it theory facts w.limit w.entries version w.begun c.self.invariant c.in-Some.base c.in-Some.field-0-1 c.in-Some.is in
-    let none : c.in-Some.field-0-1 ≡ None = no_plan c.in-Some.field-0-1 (c.requires.room it (subst (λ (s : State). Has s 0 it) c.self.view_is has)) in
-    let e : w.begun ≡ Some (c.in-Some.base, None) = c.in-Some.is ∙ ap (λ (o : Option Plan). Some (c.in-Some.base, o)) none in
-    let served : StepsTo seen (event.Change 0 plan.inserts plan.deletes) (reply.Lost c.in-Ok.lost) after =
-    serves theory facts w.limit w.entries version w.begun c.self.invariant c.in-Some.base plan c.in-Ok.lost e
-    (subst (λ (t : Theory). IsPlan t version plan) c.deref.ensures made.0)
-    (subst (λ (t : Theory). Lists (IsLost t.axioms version plan.next) c.in-Ok.lost) c.deref.ensures made.3) in
-    subst (λ (s : State). StepsTo s (event.Change 0 c.args.inserts c.args.deletes) (reply.Lost c.in-Ok.lost) after) c.self.view_is
-    (subst (λ (fs : List Fact). StepsTo seen (event.Change 0 fs c.args.deletes) (reply.Lost c.in-Ok.lost) after) made.1
-    (subst (λ (fs : List Fact). StepsTo seen (event.Change 0 plan.inserts fs) (reply.Lost c.in-Ok.lost) after) made.2 served))
+    let told : List Fact = c.of.result in
+    let after = state_of w.history c.change.new.self in
+    let is = answered w.history w.begun c.self.invariant c.args.editor c.in-Some.place c.in-Some.ensures.found (asked.Change c.as_slice.result.now c.as_slice-2.result.now) c.in-Ok.lost.items c.change.new.self c.in-Ok.ensures.ok in
+    let same : asked.Change c.as_slice.result.now c.as_slice-2.result.now ≡ asked.Change c.args.inserts c.args.deletes = λ i. asked.Change (c.as_slice.ensures i) (c.as_slice-2.ensures i) in
+    subst (λ (s : State). IsAnswered s c.args.editor (asked.Change c.args.inserts c.args.deletes) told after) c.self.view_is
+    (subst (λ (r : Request). IsAnswered (state_of w.history w.begun) c.args.editor r told after) same
+    (subst (λ (fs : List Fact). IsAnswered (state_of w.history w.begun) c.args.editor (asked.Change c.as_slice.result.now c.as_slice-2.result.now) fs after) (sym c.of.ensures) is))
+
+pub invariant_of-self-in-Err-TooManyRequests : goal.invariant_of-self-in-Err-TooManyRequests
+invariant_of-self-in-Err-TooManyRequests g c = subst (AllBeganIn c.self.inside.history) (sym c.in-Err-TooManyRequests.ensures.refused) c.self.invariant
+
+pub returns-in-Err-TooManyRequests-clause-ok : goal.returns-in-Err-TooManyRequests-clause-ok
+returns-in-Err-TooManyRequests-clause-ok g c =
+    let w = c.self.inside in
+    let full = filled w.history w.begun c.self.invariant c.args.editor c.in-Some.place c.in-Some.ensures.found (λ h e. c.in-Err-TooManyRequests.ensures.too_many h e (ap Err c.in-Err-TooManyRequests.field-0-is)) in
+    (subst (λ (s : State). IsFilled s c.args.editor) c.self.view_is full, ap (state_of w.history) c.in-Err-TooManyRequests.ensures.refused ∙ c.self.view_is)
+
+pub invariant_of-self-in-Err-IllFormed : goal.invariant_of-self-in-Err-IllFormed
+invariant_of-self-in-Err-IllFormed g c = subst (AllBeganIn c.self.inside.history) (sym c.in-Err-IllFormed.ensures.refused) c.self.invariant
 
 pub returns-in-Err-IllFormed-clause-ok : goal.returns-in-Err-IllFormed-clause-ok
 returns-in-Err-IllFormed-clause-ok g c =
     let w = c.self.inside in
-    let named = rw c.in-Err-IllFormed.field-0-is at c.in-Err-IllFormed.ensures.refused in
-    subst (λ (s : State). StepsTo s (event.Change 0 c.args.inserts c.args.deletes) (reply.IllFormed c.in-Err-IllFormed.name) s) c.self.view_is
-    (names (arc_value w.rules) (g.V.FactSet.facts w.opening) w.limit w.entries (g.V.FactSet.facts w.version) w.begun c.self.invariant c.in-Some.base c.in-Some.field-0-1 c.args.inserts c.args.deletes c.in-Err-IllFormed.name c.in-Some.is
-    (subst (λ (t : Theory). IsNamed t.axioms c.args.inserts c.args.deletes c.in-Err-IllFormed.name) c.deref.ensures named))
+    let name = c.in-Err-IllFormed.name in
+    let is = ill_formed w.history w.begun c.self.invariant c.args.editor c.in-Some.place c.in-Some.ensures.found c.as_slice.result.now c.as_slice-2.result.now name
+    (λ h e. c.in-Err-IllFormed.ensures.ill_formed h name e (ap Err c.in-Err-IllFormed.field-0-is)) in (
+      subst (λ (s : State). IsIllFormed s c.args.editor c.args.inserts c.args.deletes name) c.self.view_is
+          (subst (λ (fs : List Fact). IsIllFormed (state_of w.history w.begun) c.args.editor fs c.args.deletes name) c.as_slice.ensures
+          (subst (λ (fs : List Fact). IsIllFormed (state_of w.history w.begun) c.args.editor c.as_slice.result.now fs name) c.as_slice-2.ensures is)),
+      ap (state_of w.history) c.in-Err-IllFormed.ensures.refused ∙ c.self.view_is,
+    )
+
+pub invariant_of-self-2 : goal.invariant_of-self-2
+invariant_of-self-2 g c = subst (AllBeganIn c.self.inside.history) (sym c.in-Err-OutOfMemory.ensures.refused) c.self.invariant

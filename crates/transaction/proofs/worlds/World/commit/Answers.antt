@@ -1,56 +1,45 @@
-use Rattle.std.proofs.Common.{◌≡◌, ◌≤◌, ◌<◌, ◌+◌, ◌∷◌, ◌++◌, [], List, Some, None, Option, length, sym, ◌∙◌, ap, subst}
-use Rattle.std.specs.Arc.{arc_value}
-use Rattle.dl_base.specs.declared.requests.Entry.{Entry}
-use Rattle.dl_base.specs.declared.statements.Fact.{Fact}
+use Rattle.std.proofs.Common.{◌≡◌, ◌≤◌, length, refl, sym, ◌∙◌, ap, subst, arith}
+use Rattle.std.specs.Prelude.{IfOk}
+use Rattle.std.proofs.lemmas.Bool.{false≢true}
+use Rattle.dl_base.specs.Commits as outcome
+use Rattle.dl_base.specs.Histories.{HasChange}
+use Rattle.transaction.specs.Worlds.{State, Ends, Waits, StepsTo}
 use Rattle.transaction.specs.declared.events.Event.TheVariants as event
-use Rattle.transaction.specs.declared.events.Reply.TheVariants as reply
-use Rattle.transaction.specs.Plans.{Plan, IsKept, begun_of}
-use Rattle.transaction.specs.Worlds.{State, StepsTo}
-use Rattle.transaction.proofs.WorldLaws.{IsEntryOf, is_full, read_only, committed, keeps_committed, pushed_length}
+use Rattle.transaction.proofs.WorldLaws.{state_of, began_removed, read_only, full, within, changes_at, began_after, stepped_after}
 use Rattle.transaction.proofs.worlds.World.commit.Goals as goal
 
-pub returns-then-len-self-clause-ok : goal.returns-then-len-self-clause-ok
-returns-then-len-self-clause-ok g c =
+pub invariant_of-self : goal.invariant_of-self
+invariant_of-self g c =
     let w = c.self.inside in
-    let e : w.begun ≡ Some (c.in-Some.base, Some c.in-Some-plan.plan) = c.in-Some.is ∙ ap (λ (o : Option Plan). Some (c.in-Some.base, o)) c.in-Some-plan.is in
-    let full : w.limit ≤ length w.entries = subst (λ n. w.limit ≤ n) c.len.ensures c.if-len-self.true in
-    subst (λ (s : State). StepsTo s (event.Commit 0) (reply.HistoryFull w.limit) s) c.self.view_is
-    (is_full (arc_value w.rules) (g.V.FactSet.facts w.opening) w.limit w.entries (g.V.FactSet.facts w.version) w.begun c.self.invariant c.in-Some.base c.in-Some-plan.plan e full)
+    began_removed w.history w.begun c.self.invariant c.args.editor c.in-Some.place c.in-Some.ensures.found w.history (refl, refl, refl) c.remove.new.self c.remove.ensures.others
 
-pub returns-in_default-plan-clause-ok : goal.returns-in_default-plan-clause-ok
-returns-in_default-plan-clause-ok g c =
+pub returns-then-not-has_change-clause-ok : goal.returns-then-not-has_change-clause-ok
+returns-then-not-has_change-clause-ok g c =
     let w = c.self.inside in
-    let e : w.begun ≡ Some (c.in-Some.base, None) = c.in-Some.is ∙ ap (λ (o : Option Plan). Some (c.in-Some.base, o)) c.in_default-plan.is in
-    let t : State = record { opening = arc_value w.rules; facts = g.V.FactSet.facts w.opening; limit = w.limit; entries = w.entries; begun = begun_of None } in
-    subst (λ (s : State). StepsTo s (event.Commit 0) (reply.ReadOnly c.in-Some.base) t) c.self.view_is
-    (read_only (arc_value w.rules) (g.V.FactSet.facts w.opening) w.limit w.entries (g.V.FactSet.facts w.version) w.begun c.self.invariant c.in-Some.base e)
+    let none : HasChange c.at.result.now.requests → ⊥ = λ h. false≢true (sym c.if-not-has_change.true ∙ c.has_change.ensures.1 h) in
+    subst (λ (s : State). Ends s c.args.editor (outcome.ReadOnly c.finish-base.result) (state_of w.history c.remove.new.self)) c.self.view_is
+    (read_only w.history w.begun c.self.invariant c.args.editor c.in-Some.place c.in-Some.ensures.found c.at.result.now c.at.ensures none c.remove.result c.remove.ensures.taken c.finish-base.result c.finish-base.ensures c.remove.new.self c.remove.ensures.others)
+
+pub returns-then-length-limit-clause-ok : goal.returns-then-length-limit-clause-ok
+returns-then-length-limit-clause-ok g c =
+    let w = c.self.inside in
+    let change : HasChange c.at.result.now.requests = c.has_change.ensures.0 c.if-not-has_change.false in
+    let room : w.history.limit ≤ length w.history.entries = omega (arith, c.if-length-limit.true, c.length.ensures.count, c.limit.ensures) in
+    let waits = full w.history w.begun c.self.invariant c.args.editor c.in-Some.place c.in-Some.ensures.found c.at.result.now c.at.ensures change room in
+    (subst (λ (s : State). Waits s c.args.editor outcome.HistoryFull s) c.self.view_is waits, c.limit-then-length-limit.ensures ∙ ap (λ (s : State). s.limit) c.self.view_is)
+
+pub commit-requires-clause-place : goal.commit-requires-clause-place
+commit-requires-clause-place g c = within c.self.inside.history c.self.inside.begun c.self.invariant c.args.editor c.in-Some.place c.in-Some.ensures.found
 
 pub invariant_of-self-2 : goal.invariant_of-self-2
 invariant_of-self-2 g c =
     let w = c.self.inside in
-    let plan = c.in-Some-plan.plan in
-    let entry = c.in_ok-entry.entry in
-    let e : w.begun ≡ Some (c.in-Some.base, Some plan) = c.in-Some.is ∙ ap (λ (o : Option Plan). Some (c.in-Some.base, o)) c.in-Some-plan.is in
-    let made = c.in_ok-entry.ensures in
-    let is : IsEntryOf w.entries plan entry = record { editor_is = made.0; number_is = made.1; requests_are = made.2; changed_are = made.3; none_replaced = made.4 } in
-    let next : g.V.FactSet.facts c.in_ok-version.version ≡ plan.next = c.in_ok-version.ensures.same ∙ ap (λ (p : Plan). p.next) c.plan.view_is in
-    subst (λ (es : List Entry). IsKept (arc_value w.rules) (g.V.FactSet.facts w.opening) es (g.V.FactSet.facts c.in_ok-version.version) None) (sym c.in_ok-push.ensures.ok)
-    (subst (λ (v : List Fact). IsKept (arc_value w.rules) (g.V.FactSet.facts w.opening) (w.entries ++ entry ∷ []) v None) (sym next)
-    (keeps_committed (arc_value w.rules) (g.V.FactSet.facts w.opening) w.limit w.entries (g.V.FactSet.facts w.version) w.begun c.self.invariant c.in-Some.base plan e entry is))
+    began_after w.history w.begun c.self.invariant c.args.editor c.in-Some.place c.in-Some.ensures.found c.commit.new.history c.commit.new.self c.commit.result c.commit.ensures.ok c.commit.ensures.refused
 
 pub returns-clause-ok : goal.returns-clause-ok
 returns-clause-ok g c =
     let w = c.self.inside in
-    let plan = c.in-Some-plan.plan in
-    let entry = c.in_ok-entry.entry in
-    let e : w.begun ≡ Some (c.in-Some.base, Some plan) = c.in-Some.is ∙ ap (λ (o : Option Plan). Some (c.in-Some.base, o)) c.in-Some-plan.is in
-    let made = c.in_ok-entry.ensures in
-    let is : IsEntryOf w.entries plan entry = record { editor_is = made.0; number_is = made.1; requests_are = made.2; changed_are = made.3; none_replaced = made.4 } in
-    let room : length w.entries < w.limit = subst (λ n. n < w.limit) c.len.ensures c.if-len-self.false in
-    let count : c.len-2.result ≡ length w.entries + 1 = c.len-2.ensures ∙ pushed_length c.push.new.self w.entries entry c.in_ok-push.ensures.ok in
-    let old : State = record { opening = arc_value w.rules; facts = g.V.FactSet.facts w.opening; limit = w.limit; entries = w.entries; begun = begun_of w.begun } in
-    let after : List Entry → State = λ es. record { opening = arc_value w.rules; facts = g.V.FactSet.facts w.opening; limit = w.limit; entries = es; begun = begun_of None } in
-    subst (λ (s : State). StepsTo s (event.Commit 0) (reply.Committed c.len-2.result) (after c.push.new.self)) c.self.view_is
-    (subst (λ (es : List Entry). StepsTo old (event.Commit 0) (reply.Committed c.len-2.result) (after es)) (sym c.in_ok-push.ensures.ok)
-    (subst (λ n. StepsTo old (event.Commit 0) (reply.Committed n) (after (w.entries ++ entry ∷ []))) (sym count)
-    (committed (arc_value w.rules) (g.V.FactSet.facts w.opening) w.limit w.entries (g.V.FactSet.facts w.version) w.begun c.self.invariant c.in-Some.base plan e entry is room)))
+    let u = c.commit.new.history in
+    let new = c.commit.new.self in
+    subst (λ (s : State). IfOk c.commit.result (λ answer. StepsTo s (event.Commit c.args.editor) answer (state_of u new))) c.self.view_is
+    (stepped_after w.history w.begun c.self.invariant c.args.editor c.in-Some.place c.in-Some.ensures.found u new c.commit.result c.commit.ensures.ok)

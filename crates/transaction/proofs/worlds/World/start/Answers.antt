@@ -1,26 +1,22 @@
-use Rattle.std.proofs.Common.{List, refl, sym, ◌∙◌, subst}
-use Rattle.std.specs.Prelude.{◌↔◌, Contains, None}
+use Rattle.std.proofs.Common.{List, sym, ap, subst}
 use Rattle.std.specs.Arc.{arc_value}
-use Rattle.dl_base.specs.declared.requests.Entry.{Entry}
+use Rattle.std.specs.Prelude.{Contains}
 use Rattle.dl_base.specs.declared.statements.Fact.{Fact}
-use Rattle.dl_base.specs.FactOrder.{AreSorted}
-use Rattle.dl_base.specs.Validity.{IsOntology}
-use Rattle.transaction.specs.Plans.{IsKept}
-use Rattle.transaction.proofs.WorldLaws.{starts}
+use Rattle.dl_base.specs.Updates.{Lists}
+use Rattle.dl_base.proofs.ClashLaws.{clash_more}
+use Rattle.serial_history.specs.States.{Seen}
 use Rattle.transaction.proofs.worlds.World.start.Goals as goal
 
-pub invariant_of-result : goal.invariant_of-result
-invariant_of-result g c =
-    let theory : IsOntology (arc_value c.args.rules) = subst IsOntology (c.ontology.ensures ∙ c.deref.ensures) c.terms-terms.ensures.sound in
-    subst (λ (es : List Entry). IsKept (arc_value c.args.rules) (g.V.FactSet.facts c.in_ok-opening.opening) es (g.V.FactSet.facts c.in_ok-version.version) None) (sym c.new.ensures)
-    (starts (arc_value c.args.rules) c.args.facts.items (g.V.FactSet.facts c.in_ok-opening.opening) (g.V.FactSet.facts c.in_ok-version.version) theory c.requires.consistent c.requires.known
-    c.in_ok-version.ensures.sorted c.in_ok-version.ensures.same c.in_ok-opening.ensures.same)
+pub start-requires-clause-consistent : goal.start-requires-clause-consistent
+start-requires-clause-consistent g c = λ clash.
+    c.requires.consistent (clash_more (arc_value c.args.rules).axioms (g.V.FactSet.facts c.in_ok-opening.opening) c.args.facts.items (λ f m. (c.in_ok-opening.ensures.same f).0 m) clash)
+
+pub start-requires-clause-known : goal.start-requires-clause-known
+start-requires-clause-known g c = λ f m. c.requires.known f ((c.in_ok-opening.ensures.same f).0 m)
 
 pub returns-clause-opening : goal.returns-clause-opening
-returns-clause-opening g c = (
-  refl,
-  record {
-    sorted = subst AreSorted (sym c.in_ok-opening.ensures.same) c.in_ok-version.ensures.sorted;
-    each = λ f. subst (λ (fs : List Fact). Contains fs f ↔ Contains c.args.facts.items f) (sym c.in_ok-opening.ensures.same) (c.in_ok-version.ensures.same f);
-  },
-)
+returns-clause-opening g c =
+    let is = c.in_ok-history.ensures in
+    let facts : List Fact = g.V.FactSet.facts c.in_ok-opening.opening in
+    let listed : Lists (Contains c.args.facts.items) facts = record { sorted = c.in_ok-opening.ensures.sorted; each = c.in_ok-opening.ensures.same } in
+    (ap (λ (s : Seen). s.opening) is, subst (Lists (Contains c.args.facts.items)) (sym (ap (λ (s : Seen). s.facts) is)) listed)

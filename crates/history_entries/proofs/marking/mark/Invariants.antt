@@ -1,6 +1,0 @@
-use Rattle.std.proofs.Common.{take}
-use Rattle.history_entries.specs.Marks.{Marks}
-use Rattle.history_entries.proofs.marking.mark.Given as goal
-
-abbrev pub invariant-loop-fact : goal.invariant-loop-fact
-invariant-loop-fact l = Marks l.gone (take l.fact-index l.facts) l.changed.items

@@ -1,7 +1,0 @@
-use Rattle.std.proofs.Common.{take}
-use Rattle.dl_base.specs.Picks.{Picks}
-use Rattle.optimistic_commit.specs.Changing.{IsHeldAs}
-use Rattle.optimistic_commit.proofs.changing.held_as.Given as goal
-
-abbrev pub invariant-loop-fact : goal.invariant-loop-fact
-invariant-loop-fact g l = Picks (IsHeldAs l.held (g.V.FactSet.facts l.version)) (take l.fact-index l.facts) l.picked.items

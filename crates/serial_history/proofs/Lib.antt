@@ -1,0 +1,15 @@
+pub mod EntryLaws
+pub mod LogLaws
+pub mod MarkLaws
+pub mod StopLaws
+pub mod ValidLaws
+pub mod VersionSteps
+pub mod FreshLaws
+pub mod ChangeLaws
+pub mod PublishLaws
+pub mod SoundLaws
+pub mod StartLaws
+pub mod HeldLaws
+pub mod UpdateLaws
+pub mod CommitSteps
+pub mod ReplaceSteps
