@@ -1,0 +1,1 @@
+INSERT DATA { <http://u.example/ann> a <http://u.example/Student> }
