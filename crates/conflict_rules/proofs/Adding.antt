@@ -1,7 +1,8 @@
 -- Lists of guards, a pattern at a time.
-use Rattle.std.proofs.Common.{◌≡◌, ◌≢◌, ℕ, ◌<◌, ◌≤◌, ◌+◌, ◌*◌, cond, length, List, [], ◌∷◌, ◌++◌, refl, sym, ap, subst, inl, inr, ◌⊎◌, ⊎_elim, arith}
+use Rattle.std.proofs.Common.{◌≡◌, ◌≢◌, ℕ, ◌<◌, ◌≤◌, ◌+◌, cond, length, List, [], ◌∷◌, ◌++◌, refl, sym, ap, subst, inl, inr, ◌⊎◌, ⊎_elim, arith}
 use Rattle.std.specs.Prelude.{Contains, ◌↔◌, nat_eq}
 use Rattle.std.proofs.lemmas.Bool.{cases_lt}
+use Rattle.std.proofs.lemmas.Nat.{mul-le}
 use Rattle.std.proofs.lemmas.List.{length_push}
 use Rattle.std.proofs.lemmas.Bool.Decides.{eqb_tells}
 use Rattle.std.proofs.lemmas.List.Sums.{sum_by-append}
@@ -22,7 +23,7 @@ use Rattle.dl_base.specs.Clash.{HasClash}
 use Rattle.dl_base.proofs.Members.{here, alone}
 use Rattle.dl_laws.specs.Rows.{Start, OfConcept}
 use Rattle.conflict_rules.specs.Guards.{IsGuard}
-use Rattle.conflict_rules.specs.Counts.{pattern_term, one_if, AreAdded, IsGuardAt, AreGuardsBelow}
+use Rattle.conflict_rules.specs.Counts.{pattern_term, one_if, AreAdded, HasNoGuard, IsGuardAt, AreGuardsBelow}
 use Rattle.conflict_rules.proofs.Guarding.{guards_exact}
 
 pub one_tells : (m n : ℕ) → ((one_if m n ≡ 1) × (m ≡ n)) ⊎ ((one_if m n ≡ 0) × (m ≢ n))
@@ -60,7 +61,7 @@ added_both Q R m j k a b c one two = record {
 
 -- the loop over the terms
 module _ (Q : Term → Pattern → Type 0) (most : ℕ) where
-  pub below_none : AreGuardsBelow Q most 0 []
+  below_none : AreGuardsBelow Q most 0 []
   below_none = record {
     each = λ p. ((λ h. absurd (omega (arith, h.1))), (λ h. absurd (omega (arith, h.1))));
     few = λ n. omega arith;
@@ -71,7 +72,7 @@ module _ (Q : Term → Pattern → Type 0) (most : ℕ) where
   term_at : (t : Term) (n : ℕ) → t.0 ≡ n → t ≡ record { 0 = n }
   term_at t n h = ap (λ (k : ℕ). record { 0 = k }) h
 
-  pub below_next : (number : ℕ) (old new : List Pattern) → AreGuardsBelow Q most number old → AreAdded (Q (record { 0 = number })) number most old new → AreGuardsBelow Q most (number + 1) new
+  below_next : (number : ℕ) (old new : List Pattern) → AreGuardsBelow Q most number old → AreAdded (Q (record { 0 = number })) number most old new → AreGuardsBelow Q most (number + 1) new
   below_next number old new h add = record {
     each = λ p. (
       (λ m. ⊎_elim (λ x. let t = (h.each p).0 x in (t.0, omega (arith, t.1), t.2)) (λ x. (record { 0 = number }, omega arith, x)) ((add.each p).0 m)),
@@ -90,6 +91,25 @@ module _ (Q : Term → Pattern → Type 0) (most : ℕ) where
         (one_tells number n);
     size = omega (arith, add.size, h.size);
   }
+
+  -- terms without a guard may be passed over
+  pub below_gap : (from to : ℕ) (guards : List Pattern) → from ≤ to → AreGuardsBelow Q most from guards → HasNoGuard Q from to → AreGuardsBelow Q most to guards
+  below_gap from to guards le h free = record {
+    each = λ p. (
+      (λ m. let t = (h.each p).0 m in (t.0, omega (arith, t.1, le), t.2)),
+      (λ (t, l, q). ⊎_elim (λ less. (h.each p).1 (t, less, q)) (λ least. absurd (free t least l p q)) (cases_lt t.0 from)),
+    );
+    few = h.few;
+    none = λ n l. h.none n (omega (arith, l, le));
+    size = let e = mul-le most from most to (omega arith) le in omega (arith, e, h.size);
+  }
+
+  pub below_first : (next : ℕ) → HasNoGuard Q 0 next → AreGuardsBelow Q most next []
+  below_first next free = below_gap 0 next [] (omega arith) below_none free
+
+  pub below_on : (number next : ℕ) (old new : List Pattern) → AreGuardsBelow Q most number old → AreAdded (Q (record { 0 = number })) number most old new
+      → number + 1 ≤ next → HasNoGuard Q (number + 1) next → AreGuardsBelow Q most next new
+  below_on number next old new h add le free = below_gap (number + 1) next new le (below_next number old new h add) free
 
 abbrev pub fact_term : Fact → ℕ
 fact_term (fact.Class m c) = m.0

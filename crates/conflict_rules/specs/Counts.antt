@@ -49,6 +49,10 @@ IsGuardAt axioms a b t p =
     ⊎ (IsWhere axioms b (basic.Exists (Inverse t)) (asked.RoleTo t a) p
     ⊎ IsWhere axioms b (basic.Domain t) (asked.AttrOf t a) p))
 
+-- Q names no guard of a term from one number up to another
+abbrev pub HasNoGuard : (Term → Pattern → Type 0) → ℕ → ℕ → Type 0
+HasNoGuard Q from to = (t : Term) → from ≤ t.0 → t.0 < to → (p : Pattern) → ¬ Q t p
+
 -- the guards that Q names, among the facts of the terms below a number: so many of a term at most
 pub record AreGuardsBelow (Q : Term → Pattern → Type 0) (most number : ℕ) (guards : List Pattern) : Type 0 where
   pub each : (p : Pattern) → Contains guards p ↔ ((t : Term) × (t.0 < number) × Q t p)

@@ -4,7 +4,6 @@ use Rattle.dl_base.specs.declared.axioms.Axiom.{Axiom}
 use Rattle.dl_base.specs.declared.terms.Term.{Term}
 use Rattle.dl_base.specs.declared.terms.RoleSide.{RoleSide}
 use Rattle.dl_base.specs.declared.terms.RoleSide.TheVariants.{Direct, Inverse}
-use Rattle.dl_base.specs.declared.terms.Basic.{Basic}
 use Rattle.dl_base.specs.declared.terms.Basic.TheVariants as basic
 use Rattle.dl_base.specs.declared.patterns.Pattern.{Pattern}
 use Rattle.dl_base.specs.declared.patterns.Pattern.TheVariants as asked

@@ -43,8 +43,10 @@ impl Conflicts {
         ensures { IfOk result (λ guards. AreGuardsBelow (IsAttrGuardAt self.now.axioms attr name.now value.now) 6 (length self.now.terms) guards.items) }
     {
         let mut guards = Vec::new(alloc);
-        for number in 0..self.terms() {
-            self.add_attr_guards(alloc, attr, name, value, Term(number as u32), &mut guards)?;
+        let mut place = self.next_of_attr(attr, 0);
+        while place < self.terms() {
+            self.add_attr_guards(alloc, attr, name, value, Term(place as u32), &mut guards)?;
+            place = self.next_of_attr(attr, place + 1);
         }
         Ok(guards)
     }

@@ -41,8 +41,10 @@ impl Conflicts {
         ensures { IfOk result (λ guards. AreGuardsBelow (IsGuardAt self.now.axioms name.now concept) 4 (length self.now.terms) guards.items) }
     {
         let mut guards = Vec::new(alloc);
-        for number in 0..self.terms() {
-            self.add_all(alloc, name, concept, Term(number as u32), &mut guards)?;
+        let mut place = self.next_of_concept(concept, 0);
+        while place < self.terms() {
+            self.add_all(alloc, name, concept, Term(place as u32), &mut guards)?;
+            place = self.next_of_concept(concept, place + 1);
         }
         Ok(guards)
     }

@@ -1,12 +1,16 @@
-ghost use Rattle.std.specs.Prelude.{◌≡◌, ◌↔◌, ◌∷◌, [], IsTrue, IfOk, length};
+ghost use Rattle.std.specs.Prelude.{◌≡◌, ◌<◌, ◌≤◌, ◌↔◌, ◌∷◌, [], IsTrue, IfOk, length};
 ghost use Rattle.dl_base.specs.Clash.{HasClash};
 ghost use Rattle.dl_base.specs.Ontologies.{IsTerm};
 ghost use Rattle.dl_base.specs.Validity.{IsOntology};
+ghost use Rattle.dl_base.specs.declared.terms.Basic as basic_type;
 ghost use Rattle.dl_base.specs.declared.terms.Kind.TheVariants as kind;
+ghost use Rattle.dl_base.specs.declared.terms.RoleSide as role_side_type;
+ghost use Rattle.dl_base.specs.declared.terms.Term as term_type;
 ghost use Rattle.dl_laws.specs.Emptiness.{IsUnsatisfiable};
 ghost use Rattle.dl_laws.specs.Meeting.{AreDisjointConcepts, AreDisjointRoles, AreDisjointAttrs, ShareFunctionalRole, ShareFunctionalAttr};
 ghost use Rattle.conflict_rules.specs.Clashing.{AttrsClash, BreaksRange, ClashesWith, FactsClash, IsUnsatisfiableFact, KindsClash, RolesClash, StartsClash};
 ghost use Rattle.conflict_rules.specs.Facts.{start_of};
+ghost use Rattle.tbox_closure.specs.Tables.{role_term, term_number};
 
 use crate::beginnings::{Beginning, concept_of, share_subject};
 use crate::functional::{Functionality, functional_terms, is_set, same_role, same_term};
@@ -201,6 +205,30 @@ impl Conflicts {
         ensures { IsTrue result ↔ AreDisjointConcepts self.now.axioms one other }
     {
         self.implied().disjoint_concepts(one, other)
+    }
+
+    /// The next term from this one on that may have a concept disjoint from the given one: no term that is passed over has.
+    pub(crate) fn next_disjoint(&self, concept: Basic, from: usize) -> usize
+        ensures later { from ≤ result }
+        ensures passed { (b : basic_type.Basic) → from ≤ term_number b → term_number b < result → ¬ AreDisjointConcepts self.now.axioms concept b }
+    {
+        self.implied().next_disjoint(concept, from)
+    }
+
+    /// The next term from this one on that may be a role disjoint from the given one, from either side.
+    pub(crate) fn next_disjoint_role(&self, role: RoleSide, from: usize) -> usize
+        ensures later { from ≤ result }
+        ensures passed { (q : role_side_type.RoleSide) → from ≤ role_term q → role_term q < result → ¬ AreDisjointRoles self.now.axioms role q }
+    {
+        self.implied().next_disjoint_role(role, from)
+    }
+
+    /// The next term from this one on that may be an attribute disjoint from the given one.
+    pub(crate) fn next_disjoint_attr(&self, attr: Term, from: usize) -> usize
+        ensures later { from ≤ result }
+        ensures passed { (u : term_type.Term) → from ≤ u.0 → u.0 < result → ¬ AreDisjointAttrs self.now.axioms attr u }
+    {
+        self.implied().next_disjoint_attr(attr, from)
     }
 
     /// Whether axioms make the two roles disjoint.

@@ -45,8 +45,10 @@ impl Conflicts {
         ensures { IfOk result (λ guards. AreGuardsBelow (IsKindGuardAt self.now role from.now to.now) 8 (length self.now.terms) guards.items) }
     {
         let mut guards = Vec::new(alloc);
-        for number in 0..self.terms() {
-            self.add_at(alloc, role, from, to, Term(number as u32), &mut guards)?;
+        let mut place = self.next_of_role(role, 0);
+        while place < self.terms() {
+            self.add_at(alloc, role, from, to, Term(place as u32), &mut guards)?;
+            place = self.next_of_role(role, place + 1);
         }
         Ok(guards)
     }

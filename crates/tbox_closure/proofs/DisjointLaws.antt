@@ -1,5 +1,5 @@
 -- What rows of disjoint nodes tell of concepts, roles and attributes.
-use Rattle.std.proofs.Common.{◌≡◌, ℕ, List, [], ◌∷◌, refl, sym, ap, subst, inl, inr, ◌⊎◌, ⊎_elim}
+use Rattle.std.proofs.Common.{◌≡◌, ℕ, List, [], refl, sym, ap, subst, inl, inr, ⊎_elim}
 use Rattle.std.specs.Prelude.{Contains, ◌↔◌}
 use Rattle.std.specs.List.{flat_map}
 use Rattle.dl_base.specs.declared.axioms.Axiom.{Axiom}
@@ -14,7 +14,7 @@ use Rattle.dl_laws.specs.Edges.{concept_node, role_node, concept_edges, role_edg
 use Rattle.dl_laws.specs.Meeting.{AreDisjointConcepts, AreDisjointRoles, AreDisjointAttrs}
 use Rattle.dl_laws.specs.Paths.{Path}
 use Rattle.dl_laws.proofs.EdgeLaws.{IsEdge, one_edge, in_flat_map, out_of_flat_map, concept_paths, role_paths, attr_paths}
-use Rattle.tbox_closure.specs.Disjointness.{concept_pairs, role_pairs, attr_pairs, IsPair, IsDisjoint, AreDisjointRows}
+use Rattle.tbox_closure.specs.Disjointness.{concept_pairs, role_pairs, attr_pairs, IsDisjoint, AreDisjointRows}
 use Rattle.tbox_closure.specs.Graphs.{HaveSamePaths}
 use Rattle.tbox_closure.specs.Marks.{IsMarked, row}
 

@@ -1,10 +1,10 @@
 -- The nodes that are noted, and emptiness by them.
-use Rattle.std.proofs.Common.{◌≡◌, ℕ, ◌<◌, ◌+◌, ◌*◌, length, List, [], ◌∷◌, ◌++◌, take, get_or, refl, sym, ◌∙◌, ap, subst, inl, inr, ◌⊎◌, ⊎_elim, arith}
-use Rattle.std.specs.Prelude.{Contains, ◌↔◌, ◌≢◌}
+use Rattle.std.proofs.Common.{◌≡◌, ℕ, ◌<◌, ◌+◌, length, List, [], ◌∷◌, ◌++◌, take, get_or, refl, sym, ◌∙◌, subst, inl, inr, ◌⊎◌, ⊎_elim, arith}
+use Rattle.std.specs.Prelude.{Contains, ◌↔◌}
 use Rattle.std.proofs.lemmas.Bool.{cases_lt}
 use Rattle.std.proofs.lemmas.List.Elements.{Contains-append_left, Contains-append_right, Contains-push_cases}
 use Rattle.dl_base.specs.declared.axioms.Axiom.{Axiom}
-use Rattle.dl_base.specs.declared.axioms.Axiom.TheVariants.{ConceptApart, RoleApart, AttrApart, Range, ConceptSome}
+use Rattle.dl_base.specs.declared.axioms.Axiom.TheVariants.{ConceptApart, RoleApart, AttrApart, ConceptSome}
 use Rattle.dl_base.specs.declared.terms.Term.{Term}
 use Rattle.dl_base.specs.declared.terms.RoleSide.{RoleSide}
 use Rattle.dl_base.specs.declared.terms.RoleSide.TheVariants.{Direct, Inverse}
@@ -24,7 +24,7 @@ use Rattle.tbox_closure.specs.declared.edges.Part.TheVariants as part
 use Rattle.tbox_closure.specs.Edges.{all_edges}
 use Rattle.tbox_closure.specs.Graphs.{HaveSamePaths, Gathers}
 use Rattle.tbox_closure.specs.Marks.{IsMarked, row}
-use Rattle.tbox_closure.specs.Tables.{term_number, IsRange, IsContradictoryByKind, IsContradictoryItself, AreDisjointAmong, IsContradictoryPartner, IsItselfAt, IsItselfOf, IsItselfNode, IsPartnerNode, HasPartnerNode, IsNoted, Notes, AreEmptyRows}
+use Rattle.tbox_closure.specs.Tables.{term_number, IsContradictoryByKind, IsContradictoryItself, AreDisjointAmong, IsContradictoryPartner, IsItselfAt, IsItselfOf, IsItselfNode, IsPartnerNode, HasPartnerNode, IsNoted, Notes, AreEmptyRows}
 use Rattle.tbox_closure.proofs.LoopLaws.{take_on}
 use Rattle.tbox_closure.proofs.KnownRange.{contradictory_known, number_in}
 

@@ -1,5 +1,5 @@
 -- What the tables of an ontology tell.
-use Rattle.std.specs.Prelude.{◌≡◌, ◌≢◌, ◌↔◌, ◌⊎◌, ℕ, ◌*◌, List, Contains, length}
+use Rattle.std.specs.Prelude.{◌≡◌, ◌≢◌, ◌↔◌, ◌⊎◌, ℕ, List, Contains}
 use Rattle.dl_base.specs.declared.axioms.Axiom.{Axiom}
 use Rattle.dl_base.specs.declared.axioms.Axiom.TheVariants.{Range, ConceptSome}
 use Rattle.dl_base.specs.declared.terms.Term.{Term}
@@ -63,6 +63,12 @@ AreDisjointAmong axioms b c = AreDisjointConcepts axioms b b ⊎ (AreDisjointCon
 abbrev pub IsContradictoryPartner : List Axiom → RoleSide → Basic → Type 0
 IsContradictoryPartner axioms q c = AreDisjointAmong axioms (basic.Exists (inverse q)) c
 
+-- the term of a role, from either side
+abbrev pub role_term : RoleSide → ℕ
+role_term (Direct t) = t.0
+role_term (Inverse t) = t.0
+
+-- the term of a concept
 abbrev pub term_number : Basic → ℕ
 term_number (basic.Class t) = t.0
 term_number (basic.Exists (Direct t)) = t.0

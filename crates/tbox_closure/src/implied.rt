@@ -1,12 +1,15 @@
-ghost use Rattle.std.specs.Prelude.{◌≡◌, ◌≢◌, ◌↔◌, ℕ, List, IsTrue, IfOk, length};
+ghost use Rattle.std.specs.Prelude.{◌≡◌, ◌≢◌, ◌<◌, ◌≤◌, ◌↔◌, ℕ, List, IsTrue, IfOk, length};
 ghost use Rattle.dl_base.specs.Clash.{RoleReaches, AttrReaches};
 ghost use Rattle.dl_base.specs.Ontologies.{IsTerm};
 ghost use Rattle.dl_base.specs.Reach.{ConceptReaches};
 ghost use Rattle.dl_base.specs.Validity.{IsOntology};
+ghost use Rattle.dl_base.specs.declared.terms.Basic as basic_type;
 ghost use Rattle.dl_base.specs.declared.terms.Kind.TheVariants as kind;
+ghost use Rattle.dl_base.specs.declared.terms.RoleSide as role_side_type;
+ghost use Rattle.dl_base.specs.declared.terms.Term as term_type;
 ghost use Rattle.dl_laws.specs.Emptiness.{IsUnsatisfiable, IsEmptyConcept, IsEmptyRole, IsEmptyAttr};
 ghost use Rattle.dl_laws.specs.Meeting.{AreDisjointConcepts, AreDisjointRoles, AreDisjointAttrs};
-ghost use Rattle.tbox_closure.specs.Tables.{IsRange};
+ghost use Rattle.tbox_closure.specs.Tables.{IsRange, term_number, role_term};
 
 use crate::emptiness::empty_rows;
 use crate::marks::Marks;
@@ -168,6 +171,14 @@ impl Implied {
         self.tables().disjoint_concepts(one, other)
     }
 
+    /// The next term from this one on that may have a concept disjoint from the given one: no term that is passed over has.
+    pub fn next_disjoint(&self, concept: Basic, from: usize) -> usize
+        ensures later { from ≤ result }
+        ensures passed { (b : basic_type.Basic) → from ≤ term_number b → term_number b < result → ¬ AreDisjointConcepts self.now.axioms concept b }
+    {
+        self.tables().next_disjoint(concept, from)
+    }
+
     /// The same of roles.
     pub fn disjoint_roles(&self, one: RoleSide, other: RoleSide) -> bool
         ensures { IsTrue result ↔ AreDisjointRoles self.now.axioms one other }
@@ -175,11 +186,27 @@ impl Implied {
         self.tables().disjoint_roles(one, other)
     }
 
+    /// The next term from this one on that may be a role disjoint from the given one, from either side.
+    pub fn next_disjoint_role(&self, role: RoleSide, from: usize) -> usize
+        ensures later { from ≤ result }
+        ensures passed { (q : role_side_type.RoleSide) → from ≤ role_term q → role_term q < result → ¬ AreDisjointRoles self.now.axioms role q }
+    {
+        self.tables().next_disjoint_role(role, from)
+    }
+
     /// The same of attributes.
     pub fn disjoint_attrs(&self, one: Term, other: Term) -> bool
         ensures { IsTrue result ↔ AreDisjointAttrs self.now.axioms one other }
     {
         self.tables().disjoint_attrs(one, other)
+    }
+
+    /// The next term from this one on that may be an attribute disjoint from the given one.
+    pub fn next_disjoint_attr(&self, attr: Term, from: usize) -> usize
+        ensures later { from ≤ result }
+        ensures passed { (u : term_type.Term) → from ≤ u.0 → u.0 < result → ¬ AreDisjointAttrs self.now.axioms attr u }
+    {
+        self.tables().next_disjoint_attr(attr, from)
     }
 
     /// Whether another datatype is a range of something above the attribute.
@@ -256,6 +283,28 @@ mod tests {
         assert!(rt; implied.attr(U, W) && !implied.attr(W, U));
         assert!(rt;
             implied.is_role(Term(3)) && !implied.is_role(Term(2)) && !implied.is_role(Term(9))
+        );
+        Ok(())
+    }
+
+    // Of 40 classes the first is disjoint from the 36th, and the second from none.
+    #[test]
+    fn terms_without_disjoint_concepts_are_passed_over(rt: HostRuntime) -> Result<(), Fail> {
+        let alloc = rt.alloc();
+        let mut terms = Vec::new(alloc);
+        for number in 0..40u8 {
+            terms.push((Name::of(alloc, &[number])?, Kind::Class))?;
+        }
+        let axioms = vec![in alloc; Axiom::ConceptApart(A, Basic::Class(Term(35)))]?;
+        let ontology = Ontology::of(alloc, terms, axioms)?;
+        let implied = close(alloc, &ontology)?;
+        assert_eq!(rt; implied.next_disjoint(A, 0), 32);
+        assert_eq!(rt; implied.next_disjoint(A, 34), 34);
+        assert_eq!(rt; implied.next_disjoint(Basic::Class(Term(35)), 0), 0);
+        assert!(rt; implied.next_disjoint(Basic::Class(Term(35)), 16) >= 40);
+        assert!(rt; implied.next_disjoint(B, 0) >= 40);
+        assert!(rt;
+            implied.next_disjoint_role(P, 0) >= 40 && implied.next_disjoint_attr(U, 0) >= 40
         );
         Ok(())
     }

@@ -1,4 +1,4 @@
-ghost use Rattle.std.specs.Prelude.{◌≡◌, ◌<◌, ◌↔◌, ◌⊎◌, ◌*◌, ℕ, IsTrue, IfOk, false, length};
+ghost use Rattle.std.specs.Prelude.{◌≡◌, ◌<◌, ◌≤◌, ◌↔◌, ◌⊎◌, ◌*◌, ◌/◌, [], ℕ, IsTrue, IfOk, false, length};
 ghost use Rattle.tbox_closure.specs.Marks.{IsMarked, IsUnion, spare};
 
 use dl_base::OutOfMemory;
@@ -21,7 +21,9 @@ impl Model for Marks {
 
 impl Marks {
     /// A row of no words. It takes no memory.
-    pub fn none(alloc: Global) -> Marks {
+    pub fn none(alloc: Global) -> Marks
+        ensures { result ≡ [] }
+    {
         Marks {
             words: Vec::new(alloc),
         }
@@ -43,6 +45,18 @@ impl Marks {
             Some(word) => (*word >> (node % 64)) & 1 == 1,
             None => false,
         }
+    }
+
+    /// The first word from this one on that has a mark, or the number of words. A word has the marks of 64 nodes.
+    pub fn next_word(&self, from: usize) -> usize
+        ensures { (k : ℕ) → from ≤ k / 64 → k / 64 < result → ¬ IsMarked self.now k }
+    {
+        for place in from..self.words.len() {
+            if self.words[place] != 0 {
+                return place;
+            }
+        }
+        self.words.len()
     }
 
     /// The mark of one node alone.

@@ -1,4 +1,4 @@
-ghost use Rattle.std.specs.Prelude.{◌≡◌, ◌<◌, ◌↔◌, ◌⊎◌, ◌*◌, ℕ, IsTrue, IfOk, false, length};
+ghost use Rattle.std.specs.Prelude.{◌≡◌, ◌<◌, ◌≤◌, ◌↔◌, ◌⊎◌, ◌*◌, ◌/◌, ℕ, IsTrue, IfOk, false, length};
 ghost use Rattle.tbox_closure.specs.Marks.{IsMarked, AreWide, row, all_spare};
 ghost use Rattle.tbox_closure.specs.Graphs.{AreBelow, AreMarked, AreFirst, AreAlike, AreClosed, Carries, Grows, Gathers};
 
@@ -30,6 +30,17 @@ pub fn is_marked(edge: (usize, usize), rows: &[Marks]) -> bool
         rows[edge.0].has(edge.1)
     } else {
         false
+    }
+}
+
+/// The first word from this one on that has a mark in the row of the node, or a later one where the row has none.
+pub fn next_word(rows: &[Marks], node: usize, from: usize) -> usize
+    ensures { (k : ℕ) → from ≤ k / 64 → k / 64 < result → ¬ IsMarked (row rows.now node) k }
+{
+    if node < rows.len() {
+        rows[node].next_word(from)
+    } else {
+        usize::MAX
     }
 }
 

@@ -1,14 +1,17 @@
-ghost use Rattle.std.specs.Prelude.{◌≡◌, ◌≢◌, ◌↔◌, ℕ, IsTrue, IfOk, length, List};
+ghost use Rattle.std.specs.Prelude.{◌≡◌, ◌≢◌, ◌<◌, ◌≤◌, ◌↔◌, ℕ, IsTrue, IfOk, length, List};
 ghost use Rattle.dl_base.specs.Clash.{RoleReaches, AttrReaches};
 ghost use Rattle.dl_base.specs.Ontologies.{IsTerm};
 ghost use Rattle.dl_base.specs.Reach.{ConceptReaches};
 ghost use Rattle.dl_base.specs.Validity.{IsOntology};
+ghost use Rattle.dl_base.specs.declared.terms.Basic as basic_type;
 ghost use Rattle.dl_base.specs.declared.terms.Kind.TheVariants as kind;
+ghost use Rattle.dl_base.specs.declared.terms.RoleSide as role_side_type;
+ghost use Rattle.dl_base.specs.declared.terms.Term as term_type;
 ghost use Rattle.dl_laws.specs.Meeting.{AreDisjointConcepts, AreDisjointRoles, AreDisjointAttrs};
 ghost use Rattle.tbox_closure.specs.Disjointness.{all_pairs, AreDisjointRows};
 ghost use Rattle.tbox_closure.specs.Edges.{all_edges};
 ghost use Rattle.tbox_closure.specs.Graphs.{AreBelow, IsGraphOf};
-ghost use Rattle.tbox_closure.specs.Tables.{AreRanges};
+ghost use Rattle.tbox_closure.specs.Tables.{AreRanges, term_number, role_term};
 
 use crate::disjointness::{Disjointness, disjoint_rows};
 use crate::edges::Part;
@@ -17,7 +20,7 @@ use crate::graphs::Table;
 use crate::marks::Marks;
 use crate::nodes::{concept_number, role_number};
 use crate::ranges::ranges_of;
-use crate::rows::is_marked;
+use crate::rows::{is_marked, next_word};
 use dl_base::{Axiom, Basic, Name, Ontology, OutOfMemory, Pattern, RoleSide, Term};
 use std::alloc::Global;
 use std::marker::Model;
@@ -132,6 +135,17 @@ impl Tables {
         )
     }
 
+    /// The next term from this one on that may have a concept disjoint from the given one: no term that is passed over has.
+    pub fn next_disjoint(&self, concept: Basic, from: usize) -> usize
+        ensures later { from ≤ result }
+        ensures passed { (b : basic_type.Basic) → from ≤ term_number b → term_number b < result → ¬ AreDisjointConcepts self.now.axioms concept b }
+    {
+        // A word has the concepts of 16 terms.
+        let rows = self.disjoint_concepts.as_slice();
+        let word = next_word(rows, concept_number(concept), from / 16);
+        word.saturating_mul(16).max(from)
+    }
+
     pub fn disjoint_roles(&self, one: RoleSide, other: RoleSide) -> bool
         ensures { IsTrue result ↔ AreDisjointRoles self.now.axioms one other }
     {
@@ -141,6 +155,17 @@ impl Tables {
         )
     }
 
+    /// The next term from this one on that may be a role disjoint from the given one, from either side.
+    pub fn next_disjoint_role(&self, role: RoleSide, from: usize) -> usize
+        ensures later { from ≤ result }
+        ensures passed { (q : role_side_type.RoleSide) → from ≤ role_term q → role_term q < result → ¬ AreDisjointRoles self.now.axioms role q }
+    {
+        // A word has both sides of 32 terms.
+        let rows = self.disjoint_roles.as_slice();
+        let word = next_word(rows, role_number(role), from / 32);
+        word.saturating_mul(32).max(from)
+    }
+
     pub fn disjoint_attrs(&self, one: Term, other: Term) -> bool
         ensures { IsTrue result ↔ AreDisjointAttrs self.now.axioms one other }
     {
@@ -148,6 +173,16 @@ impl Tables {
             (one.0 as usize, other.0 as usize),
             self.disjoint_attrs.as_slice(),
         )
+    }
+
+    /// The next term from this one on that may be an attribute disjoint from the given one.
+    pub fn next_disjoint_attr(&self, attr: Term, from: usize) -> usize
+        ensures later { from ≤ result }
+        ensures passed { (u : term_type.Term) → from ≤ u.0 → u.0 < result → ¬ AreDisjointAttrs self.now.axioms attr u }
+    {
+        let rows = self.disjoint_attrs.as_slice();
+        let word = next_word(rows, attr.0 as usize, from / 64);
+        word.saturating_mul(64).max(from)
     }
 }
 

@@ -1,9 +1,9 @@
-use Rattle.std.proofs.Common.{◌≡◌, ◌<◌, ◌∙◌, ◌+◌, ℕ, List, Bool, length, take, sym, ap, subst, arith}
+use Rattle.std.proofs.Common.{◌≡◌, ◌<◌, ◌∙◌, ◌+◌, List, length, take, sym, ap, subst, arith}
 use Rattle.std.specs.Prelude.{Contains}
 use Rattle.std.proofs.Math.Seq.{take-length}
 use Rattle.std.proofs.lemmas.List.Elements.{Contains-get_or}
 use Rattle.dl_base.specs.declared.axioms.Axiom.{Axiom}
-use Rattle.conflict_rules.specs.Functional.{AreFunctional, declared_of}
+use Rattle.conflict_rules.specs.Functional.{AreFunctional}
 use Rattle.conflict_rules.proofs.FunctionalLaws.{functional_none, functional_more, functional_skip}
 use Rattle.conflict_rules.proofs.functional.mark_functional.Goals as goal
 use Rattle.conflict_rules.proofs.functional.mark_functional.Goals.{in-Some, in-None}

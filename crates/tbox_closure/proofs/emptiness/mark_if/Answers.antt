@@ -1,4 +1,4 @@
-use Rattle.std.proofs.Common.{ℕ, sym, ◌∙◌}
+use Rattle.std.proofs.Common.{sym, ◌∙◌}
 use Rattle.tbox_closure.specs.Tables.{IsItselfAt}
 use Rattle.tbox_closure.proofs.EmptyLaws.{notes_one}
 use Rattle.tbox_closure.proofs.emptiness.mark_if.Goals as goal

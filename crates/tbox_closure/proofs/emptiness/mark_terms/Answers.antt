@@ -1,4 +1,4 @@
-use Rattle.std.proofs.Common.{◌≡◌, ℕ, length, arith}
+use Rattle.std.proofs.Common.{◌≡◌, length, arith}
 use Rattle.tbox_closure.proofs.EmptyLaws.{below_none, below_more, below_all}
 use Rattle.tbox_closure.proofs.emptiness.mark_terms.Goals as goal
 

@@ -1,5 +1,5 @@
 use Rattle.std.proofs.Common.{◌≡◌, length, sym, arith}
-use Rattle.tbox_closure.specs.Graphs.{AreBelow, AreRows}
+use Rattle.tbox_closure.specs.Graphs.{AreBelow}
 use Rattle.tbox_closure.proofs.RowLaws.{filled, range_at, closed_by_few, sound_among, begun_on, same_by_rows}
 use Rattle.tbox_closure.proofs.graphs.complete.Goals as goal
 

@@ -1,4 +1,4 @@
-use Rattle.std.proofs.Common.{List, ℕ, sym, subst}
+use Rattle.std.proofs.Common.{List, sym, subst}
 use Rattle.std.specs.Prelude.{IfOk}
 use Rattle.dl_base.specs.declared.axioms.Axiom.{Axiom}
 use Rattle.tbox_closure.specs.Disjointness.{all_pairs, AreDisjointRows}

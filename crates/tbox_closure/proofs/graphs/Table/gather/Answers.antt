@@ -1,5 +1,4 @@
 use Rattle.std.proofs.Common.{◌≡◌, ◌∙◌, ℕ, List, sym, ap, subst, length}
-use Rattle.std.specs.Prelude.{Contains}
 use Rattle.tbox_closure.specs.Graphs.{Graph, AreBelow}
 use Rattle.tbox_closure.proofs.graphs.Table.gather.Goals as goal
 

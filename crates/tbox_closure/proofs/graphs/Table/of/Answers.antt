@@ -1,7 +1,6 @@
-use Rattle.std.proofs.Common.{◌≡◌, ◌<◌, ◌∙◌, ℕ, List, length, refl, sym, ap, subst, arith}
-use Rattle.std.specs.Prelude.{IfSome}
+use Rattle.std.proofs.Common.{◌≡◌, ◌<◌, ◌∙◌, ℕ, List, length, sym, ap, subst, arith}
 use Rattle.std.proofs.lemmas.List.{with_items_is}
-use Rattle.tbox_closure.specs.Graphs.{AreBelow, AreRows, AreAmong, HaveSamePaths, IsTable}
+use Rattle.tbox_closure.specs.Graphs.{AreBelow, AreRows, HaveSamePaths, IsTable}
 use Rattle.tbox_closure.proofs.graphs.Table.of.Goals as goal
 
 pub fill-requires-clause-range : goal.fill-requires-clause-range

@@ -1,4 +1,4 @@
-use Rattle.std.proofs.Common.{IsTrue, subst, refl, ◌↔◌}
+use Rattle.std.proofs.Common.{IsTrue, subst, ◌↔◌}
 use Rattle.dl_base.specs.Ontologies.{Theory}
 use Rattle.dl_laws.specs.Edges.{role_node}
 use Rattle.dl_laws.specs.Meeting.{AreDisjointRoles}

@@ -1,7 +1,6 @@
 use Rattle.dl_base.specs.declared.axioms.Axiom.{Axiom}
 use Rattle.tbox_closure.specs.Tables.{AreRanges}
 use Rattle.std.proofs.Common.{List, ℕ, ◌*◌, sym, subst, ap, ◌∙◌}
-use Rattle.dl_base.specs.Ontologies.{Theory}
 use Rattle.tbox_closure.specs.declared.disjointness.Disjointness.TheVariants as disjoint
 use Rattle.tbox_closure.specs.declared.edges.Part.TheVariants as part
 use Rattle.tbox_closure.specs.Disjointness.{all_pairs}
