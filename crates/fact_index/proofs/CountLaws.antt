@@ -17,7 +17,7 @@ use Rattle.fact_index.specs.declared.places.Shape.{Shape}
 use Rattle.fact_index.specs.declared.places.Shape.TheVariants as shape
 use Rattle.fact_index.proofs.FactLaws.{link_with, class_parts, role_parts, attr_parts}
 use Rattle.fact_index.proofs.IndexLaws.{facts_sorted, from_map, from_order, into_order}
-use Rattle.fact_index.proofs.OrderedLaws.{length_insert}
+use Rattle.fact_delta.proofs.OrderedLaws.{length_insert}
 
 -- the list without its first element
 once_tail : {X : Type 0} (x : X) (xs : List X) → AreOnce (x ∷ xs) → AreOnce xs

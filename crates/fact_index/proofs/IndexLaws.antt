@@ -16,7 +16,7 @@ use Rattle.fact_index.specs.declared.places.Link.{Link}
 use Rattle.fact_index.specs.declared.places.Shape.{Shape}
 use Rattle.fact_index.specs.declared.places.Shape.TheVariants as shape
 use Rattle.fact_index.proofs.LinkLaws.{IsPut, IsTaken}
-use Rattle.fact_index.proofs.OrderedLaws.{from_insert, into_insert, sorted_insert}
+use Rattle.fact_delta.proofs.OrderedLaws.{from_insert, into_insert, sorted_insert}
 
 -- the facts in order
 pub in_order_sorted : (fs : List Fact) → AreSorted (in_order fs)

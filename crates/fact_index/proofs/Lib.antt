@@ -3,7 +3,6 @@ pub mod RunLaws
 pub mod LinkLaws
 pub mod NumberLaws
 pub mod FactLaws
-pub mod OrderedLaws
 pub mod IndexLaws
 pub mod FoundLaws
 pub mod CountLaws

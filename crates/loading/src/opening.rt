@@ -11,13 +11,14 @@ ghost use Rattle.update_engine.specs.Judging.{IsClash};
 use crate::refusals::LoadRefusal;
 use dl_base::{Fact, Facts, Ontology, OutOfMemory, Steps, copies_of, once, sorted_once};
 use dl_text::ReadRefusal;
+use fact_delta::is_in_order;
 use fact_index::Index;
 use ntriples::read_facts;
 use std::alloc::Global;
 use std::marker::Brand;
 use std::sync::Arc;
 use std::sync::ledger::{Blank, Ledger};
-use update_engine::{Clash, Rules, first_clash_in, is_in_order};
+use update_engine::{Clash, Rules, first_clash_in};
 
 /// An ontology with its rules, facts that are consistent under it, and how many triples were skipped.
 #[derive(Drop)]

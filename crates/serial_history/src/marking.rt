@@ -4,8 +4,8 @@ ghost use Rattle.dl_base.specs.FactOrder.{AreSorted};
 ghost use Rattle.serial_history.specs.Marks.{IsMarked, Marks};
 
 use dl_base::{Changed, Changes, Fact, OutOfMemory, copies_of, sorted_once};
+use fact_delta::is_in_order;
 use std::alloc::Global;
-use update_engine::is_in_order;
 
 /// The facts that go, marked as removed, and those that come, marked as added, in the order of facts.
 pub fn marked(alloc: Global, gone: &[Fact], come: &[Fact]) -> Result<Changes, OutOfMemory>

@@ -1,6 +1,5 @@
-ghost use Rattle.std.specs.Prelude.{◌↔◌, List, IsTrue, IfOk, Contains};
+ghost use Rattle.std.specs.Prelude.{List, IfOk};
 ghost use Rattle.dl_base.specs.FactOrder.{AreSorted};
-ghost use Rattle.dl_base.specs.Picks.{Picks};
 ghost use Rattle.dl_base.specs.Updates.{Lists, IsStored};
 ghost use Rattle.dl_base.specs.declared.axioms.Axiom as axiom_type;
 ghost use Rattle.dl_base.specs.declared.statements.Fact as fact_type;
@@ -9,6 +8,7 @@ ghost use Rattle.update_engine.specs.Stepping.{IsStep};
 use crate::answers::Step;
 use crate::picking::with_copies;
 use dl_base::{Fact, OutOfMemory, sorted_once};
+use fact_delta::absent;
 use std::alloc::Global;
 
 /// The facts that are stored after the step of a request from these facts, in order: those that the step doesn't remove, and those that
@@ -18,31 +18,9 @@ pub fn stored_after(alloc: Global, facts: &[Fact], step: &Step) -> Result<Vec<Fa
     ensures { (axioms : List axiom_type.Axiom) (inserts deletes : List fact_type.Fact) → IsStep axioms facts.now inserts deletes step.now
         → IfOk result (λ stored. Lists (IsStored axioms facts.now inserts deletes) stored.items) }
 {
-    let kept = remaining(alloc, facts, step.removed.as_slice())?;
+    let kept = absent(alloc, facts, step.removed.as_slice())?;
     let stored = with_copies(alloc, step.added.as_slice(), kept)?;
     Ok(sorted_once(stored)?)
-}
-
-/// Copies of the facts that weren't removed.
-fn remaining(alloc: Global, facts: &[Fact], removed: &[Fact]) -> Result<Vec<Fact>, OutOfMemory>
-    requires { AreSorted removed.now }
-    ensures { IfOk result (λ kept. Picks (λ f. ¬ Contains removed.now f) facts.now kept.items) }
-{
-    let mut kept = Vec::new(alloc);
-    for fact in facts {
-        if !is_in_order(removed, fact) {
-            kept.push(fact.copy(alloc)?)?;
-        }
-    }
-    Ok(kept)
-}
-
-/// Whether the fact is among sorted facts.
-pub fn is_in_order(facts: &[Fact], fact: &Fact) -> bool
-    requires { AreSorted facts.now }
-    ensures { IsTrue result ↔ Contains facts.now fact.now }
-{
-    facts.binary_search(fact).is_ok()
 }
 
 #[cfg(test)]

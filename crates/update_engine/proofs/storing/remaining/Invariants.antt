@@ -1,7 +1,0 @@
-use Rattle.std.proofs.Common.{take}
-use Rattle.std.specs.Prelude.{Contains}
-use Rattle.dl_base.specs.Picks.{Picks}
-use Rattle.update_engine.proofs.storing.remaining.Given as goal
-
-abbrev pub invariant-loop-fact : goal.invariant-loop-fact
-invariant-loop-fact l = Picks (λ f. ¬ Contains l.removed f) (take l.fact-index l.facts) l.kept.items
