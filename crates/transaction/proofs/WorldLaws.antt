@@ -13,6 +13,7 @@ use Rattle.dl_base.specs.Commits as outcome
 use Rattle.dl_base.specs.Histories.{HasChange, IsVersion, in_force, in_force_at}
 use Rattle.dl_base.specs.Ontologies.{Theory, KnowsRequest}
 use Rattle.dl_base.specs.Transactions.{IsWell, Runs, Serves}
+use Rattle.dl_base.specs.Updates.{IsWellFormed}
 use Rattle.dl_base.proofs.Places.{get_cases}
 use Rattle.serial_history.specs.Committing.{Continues}
 use Rattle.serial_history.specs.States.{Seen}
@@ -20,7 +21,7 @@ use Rattle.update_engine.specs.declared.judging.IllFormed.{IllFormed}
 use Rattle.update_engine.specs.Judging.{IsNamed}
 use Rattle.transaction.specs.Holding.{Held, HoldsAt, IsPlaceOf, ServesAt, BeganIn, AllBeganIn, IsSameOpening, HasOutcome, IsCommitted, PublishesAt, begun_of}
 use Rattle.transaction.specs.Serving.{Open, IsServed}
-use Rattle.transaction.specs.Worlds.{Begun, State, Has, HasNone, HasOne, StandsAt, IsAnswered, IsFilled, IsIllFormed, Ends, Waits, StepsTo, of_editor, with_one, without, with_begun, recorded, ended, theory_of}
+use Rattle.transaction.specs.Worlds.{Begun, State, Has, HasNone, HasOne, HasSpace, StandsAt, IsAnswered, IsFilled, IsIllFormed, Ends, Waits, StepsTo, of_editor, with_one, without, with_begun, recorded, ended, theory_of}
 use Rattle.transaction.specs.declared.events.Event.TheVariants as event
 use Rattle.transaction.specs.declared.events.Reply.{Reply}
 use Rattle.transaction.specs.declared.events.Reply.TheVariants as reply
@@ -52,6 +53,10 @@ same_opening s u e = (ap (λ (x : Seen). x.opening) e, ap (λ (x : Seen). x.fact
 -- a history that goes on has the opening and the limit that it had
 pub continued : (s u : Seen) → Continues s u → IsSameOpening s u
 continued s u h = (ap (λ (x : Seen). x.opening) h.3, ap (λ (x : Seen). x.facts) h.3, ap (λ (x : Seen). x.limit) h.3)
+
+pub on_err : (r : Result Reply OutOfMemory) (P : Type 0) → P → OnErr r P
+on_err (Ok answer) P p = tt
+on_err (Err e) P p = p
 
 module _ (s : Seen) (helds : List Held) (began : AllBeganIn s helds) (editor place : ℕ) (is : IsPlaceOf editor helds place) where
   abbrev pub t : Open
@@ -128,6 +133,19 @@ module _ (s : Seen) (helds : List Held) (began : AllBeganIn s helds) (editor pla
   ill_formed inserts deletes name ill =
       let n = ill (held editor t) at in
       (own, has, n.0, subst (λ (th : Theory). IsNamed th.axioms inserts deletes name) force n.1)
+
+  -- there is room for one request more
+  pub space : ((h : Held) → slice_get helds place ≡ Some h → length h.transaction.requests < 10000) → HasSpace (state_of s helds) editor (λ b. Unit {0})
+  space room = (own, has, room (held editor t) at, tt)
+
+  pub space_for : (inserts deletes : List Fact) → ((h : Held) → slice_get helds place ≡ Some h → (length h.transaction.requests < 10000) × IsWellFormed h.transaction.ontology.axioms inserts deletes)
+      → HasSpace (state_of s helds) editor (λ b. IsWellFormed (theory_of (state_of s helds) b).axioms inserts deletes)
+  space_for inserts deletes room =
+      let n = room (held editor t) at in
+      (own, has, n.0, subst (λ (th : Theory). IsWellFormed th.axioms inserts deletes) force n.1)
+
+  pub changing : (o : Open) → HoldsAt helds place o → HasChange o.requests → (b : Begun) × Has (state_of s helds) editor b × HasChange b.requests
+  changing o h change = (own, has, subst (λ (x : Open). HasChange x.requests) (sym (same_at o h)) change)
 
   module _ (u : Seen) (so : IsSameOpening s u) (new : List Held) (gone : new ≡ remove helds place) where
     pub ended_at : state_of u new ≡ ended (state_of s helds) editor u.entries

@@ -8,7 +8,7 @@ use Rattle.dl_base.specs.declared.requests.Request.{Request}
 use Rattle.dl_base.specs.declared.requests.Request.TheVariants as asked
 use Rattle.dl_base.specs.Commits.{Outcome, Replaced, IsOutcome, IsReplaced}
 use Rattle.dl_base.specs.Commits as outcome
-use Rattle.dl_base.specs.Histories.{IsVersion, in_force, in_force_at}
+use Rattle.dl_base.specs.Histories.{HasChange, IsVersion, in_force, in_force_at}
 use Rattle.dl_base.specs.Ontologies.{Theory, Extends, KnowsRequest}
 use Rattle.dl_base.specs.Transactions.{Runs, Serves, IsWell}
 use Rattle.dl_base.specs.Validity.{IsOntology}
@@ -16,6 +16,7 @@ use Rattle.transaction.specs.declared.events.Event.{Event}
 use Rattle.transaction.specs.declared.events.Event.TheVariants as event
 use Rattle.transaction.specs.declared.events.Reply.{Reply}
 use Rattle.transaction.specs.declared.events.Reply.TheVariants as reply
+use Rattle.dl_base.specs.Updates.{IsWellFormed}
 use Rattle.update_engine.specs.Judging.{IsNamed}
 
 -- a transaction that an editor has begun: the number of entries then, and its requests since
@@ -148,3 +149,16 @@ KnowsEvent s (event.Ask e pattern) = (b : Begun) → Has s e b → KnowsRequest 
 KnowsEvent s (event.Change e inserts deletes) = (b : Begun) → Has s e b → KnowsRequest (theory_of s b) (asked.Change inserts deletes)
 KnowsEvent s (event.Replace e ontology) = IsOntology (arc_value ontology) × Extends (arc_value ontology) (in_force s.opening s.entries)
 KnowsEvent s other = Unit {0}
+
+-- the editor's transaction has room for one request more
+abbrev pub HasSpace : State → ℕ → (Begun → Type 0) → Type 0
+HasSpace s editor P = (b : Begun) × Has s editor b × (length b.requests < 10000) × P b
+
+-- to answer the event may take memory: nothing that stands already tells the answer
+abbrev pub TakesMemory : State → Event → Type 0
+TakesMemory s (event.Begin e) = HasNone s e
+TakesMemory s (event.Ask e pattern) = HasSpace s e (λ b. Unit {0})
+TakesMemory s (event.Change e inserts deletes) = HasSpace s e (λ b. IsWellFormed (theory_of s b).axioms inserts deletes)
+TakesMemory s (event.Commit e) = ((b : Begun) × Has s e b × HasChange b.requests) × (length s.entries < s.limit)
+TakesMemory s (event.Abort e) = ⊥
+TakesMemory s (event.Replace e ontology) = HasNone s e × (length s.entries < s.limit)

@@ -4,6 +4,7 @@ ghost use Rattle.dl_base.specs.Histories.{HasChange};
 ghost use Rattle.dl_base.specs.Ontologies.{Knows, KnowsPattern};
 ghost use Rattle.dl_base.specs.declared.requests.Request.TheVariants as asked;
 ghost use Rattle.transaction.specs.Holding.{Held, AllBeganIn, HoldsAt, IsPlaceOf, ServesAt, PublishesAt, begun_of};
+ghost use Rattle.dl_base.specs.Updates.{IsWellFormed};
 ghost use Rattle.transaction.specs.Worlds.{of_editor};
 ghost use Rattle.transaction.specs.declared.refusals.TxRefusal.TheVariants as refusal;
 ghost use Rattle.update_engine.specs.Judging.{IsNamed};
@@ -105,6 +106,8 @@ impl<V: Versions + Drop> AllBegun<V> {
         requires known { (h : Held) → slice_get self.old place ≡ Some h → KnowsPattern h.transaction.ontology pattern.now }
         ensures ok { IfOk result (λ answers. ServesAt self.old place (asked.Ask pattern.now) answers.items self.new) }
         ensures too_many { (h : Held) → slice_get self.old place ≡ Some h → (result ≡ Err refusal.TooManyRequests) → length h.transaction.requests ≡ 10000 }
+        ensures never_ill_formed { (name : ill_formed_type.IllFormed) → ¬ (result ≡ Err (refusal.IllFormed name)) }
+        ensures memory { (h : Held) → slice_get self.old place ≡ Some h → (result ≡ Err refusal.OutOfMemory) → length h.transaction.requests < 10000 }
         ensures refused { OnErr result (self.new ≡ self.old) }
     {
         let held = &mut self.items[place];
@@ -124,6 +127,8 @@ impl<V: Versions + Drop> AllBegun<V> {
         ensures too_many { (h : Held) → slice_get self.old place ≡ Some h → (result ≡ Err refusal.TooManyRequests) → length h.transaction.requests ≡ 10000 }
         ensures ill_formed { (h : Held) (name : ill_formed_type.IllFormed) → slice_get self.old place ≡ Some h → (result ≡ Err (refusal.IllFormed name))
             → (length h.transaction.requests < 10000) × IsNamed h.transaction.ontology.axioms inserts.now deletes.now name }
+        ensures memory { (h : Held) → slice_get self.old place ≡ Some h → (result ≡ Err refusal.OutOfMemory)
+            → (length h.transaction.requests < 10000) × IsWellFormed h.transaction.ontology.axioms inserts.now deletes.now }
         ensures refused { OnErr result (self.new ≡ self.old) }
     {
         let held = &mut self.items[place];

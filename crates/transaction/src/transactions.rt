@@ -7,6 +7,7 @@ ghost use Rattle.dl_base.specs.Transactions.{IsWell, Runs};
 ghost use Rattle.dl_base.specs.declared.requests.Request.TheVariants as asked;
 ghost use Rattle.dl_base.specs.declared.statements.Fact as fact_type;
 ghost use Rattle.read_patterns.specs.Effects.{AreEffects};
+ghost use Rattle.dl_base.specs.Updates.{IsWellFormed};
 ghost use Rattle.transaction.specs.Serving.{BelongTo, IsServed};
 ghost use Rattle.transaction.specs.declared.refusals.TxRefusal.TheVariants as refusal;
 ghost use Rattle.update_engine.specs.Judging.{IsNamed};
@@ -95,6 +96,7 @@ impl<V: Versions + Drop> Transaction<V> {
         // Too many requests, then want of memory.
         ensures too_many { (result ≡ Err refusal.TooManyRequests) ↔ (length self.old.requests ≡ 10000) }
         ensures never_ill_formed { (name : ill_formed_type.IllFormed) → ¬ (result ≡ Err (refusal.IllFormed name)) }
+        ensures memory { (result ≡ Err refusal.OutOfMemory) → length self.old.requests < 10000 }
         ensures refused { OnErr result (self.new ≡ self.old) }
     {
         if self.recorded.len() >= MOST_REQUESTS {
@@ -120,6 +122,7 @@ impl<V: Versions + Drop> Transaction<V> {
         ensures too_many { (result ≡ Err refusal.TooManyRequests) ↔ (length self.old.requests ≡ 10000) }
         ensures ill_formed { (name : ill_formed_type.IllFormed) → (result ≡ Err (refusal.IllFormed name))
             ↔ ((length self.old.requests < 10000) × IsNamed self.old.ontology.axioms inserts.now deletes.now name) }
+        ensures memory { (result ≡ Err refusal.OutOfMemory) → (length self.old.requests < 10000) × IsWellFormed self.old.ontology.axioms inserts.now deletes.now }
         ensures refused { OnErr result (self.new ≡ self.old) }
     {
         if self.recorded.len() >= MOST_REQUESTS {

@@ -1,4 +1,4 @@
-ghost use Rattle.std.specs.Prelude.{◌≡◌, [], Contains, IfOk, OnErr, map};
+ghost use Rattle.std.specs.Prelude.{◌≡◌, ◌↔◌, ◌≤◌, [], Contains, IsTrue, IfOk, OnErr, length, map};
 ghost use Rattle.std.specs.Arc.{arc_value};
 ghost use Rattle.dl_base.specs.Clash.{IsConsistent};
 ghost use Rattle.dl_base.specs.FactOrder.{AreSorted};
@@ -50,7 +50,7 @@ impl<V: Versions + Drop> Drop for World<V> {
 }
 
 impl<V: Versions + Drop> World<V> {
-    ghost use Rattle.transaction.specs.Worlds.{Begun, Has, HasNone, KnowsEvent, StepsTo, theory_of};
+    ghost use Rattle.transaction.specs.Worlds.{Begun, Has, HasNone, KnowsEvent, StepsTo, TakesMemory, theory_of};
 
     /// No transaction so far, over these facts.
     pub fn start(
@@ -112,10 +112,19 @@ impl<V: Versions + Drop> World<V> {
         self.history.rules()
     }
 
-    /// One event. Where memory is refused, nothing has changed.
+    /// Whether there are as many entries as there may be.
+    fn is_full(&self) -> bool
+        ensures { IsTrue result ↔ (self.now.limit ≤ length self.now.entries) }
+    {
+        self.history.length() >= self.history.limit()
+    }
+
+    /// One event. Where memory is refused, nothing has changed. An event that the begun transactions, their requests and the number of entries
+    /// answer already takes no memory, and neither does a change that contradicts itself.
     pub fn step(&mut self, event: Event) -> Result<Reply, OutOfMemory>
         requires known { KnowsEvent self.old event }
         ensures ok { IfOk result (λ reply. StepsTo self.old event reply self.new) }
+        ensures memory { OnErr result (TakesMemory self.old event) }
         ensures refused { OnErr result (self.new ≡ self.old) }
     {
         match event {
@@ -130,6 +139,7 @@ impl<V: Versions + Drop> World<V> {
 
     fn begin(&mut self, editor: u32) -> Result<Reply, OutOfMemory>
         ensures ok { IfOk result (λ reply. StepsTo self.old (event.Begin editor) reply self.new) }
+        ensures memory { OnErr result (TakesMemory self.old (event.Begin editor)) }
         ensures refused { OnErr result (self.new ≡ self.old) }
     {
         if let Some(_) = self.begun.place_of(editor) {
@@ -146,6 +156,7 @@ impl<V: Versions + Drop> World<V> {
     fn ask(&mut self, editor: u32, pattern: Pattern) -> Result<Reply, OutOfMemory>
         requires { KnowsEvent self.old (event.Ask editor pattern) }
         ensures ok { IfOk result (λ reply. StepsTo self.old (event.Ask editor pattern) reply self.new) }
+        ensures memory { OnErr result (TakesMemory self.old (event.Ask editor pattern)) }
         ensures refused { OnErr result (self.new ≡ self.old) }
     {
         let Some(place) = self.begun.place_of(editor) else {
@@ -163,6 +174,7 @@ impl<V: Versions + Drop> World<V> {
     fn change(&mut self, editor: u32, inserts: Facts, deletes: Facts) -> Result<Reply, OutOfMemory>
         requires { KnowsEvent self.old (event.Change editor inserts deletes) }
         ensures ok { IfOk result (λ reply. StepsTo self.old (event.Change editor inserts deletes) reply self.new) }
+        ensures memory { OnErr result (TakesMemory self.old (event.Change editor inserts deletes)) }
         ensures refused { OnErr result (self.new ≡ self.old) }
     {
         let Some(place) = self.begun.place_of(editor) else {
@@ -181,6 +193,7 @@ impl<V: Versions + Drop> World<V> {
 
     fn commit(&mut self, editor: u32) -> Result<Reply, OutOfMemory>
         ensures ok { IfOk result (λ reply. StepsTo self.old (event.Commit editor) reply self.new) }
+        ensures memory { OnErr result (TakesMemory self.old (event.Commit editor)) }
         ensures refused { OnErr result (self.new ≡ self.old) }
     {
         let Some(place) = self.begun.place_of(editor) else {
@@ -190,7 +203,7 @@ impl<V: Versions + Drop> World<V> {
             let base = self.begun.remove(place).finish();
             return Ok(Reply::ReadOnly(base));
         }
-        if self.history.length() >= self.history.limit() {
+        if self.is_full() {
             return Ok(Reply::HistoryFull(self.history.limit()));
         }
         self.begun.commit(place, &mut self.history)
@@ -209,10 +222,14 @@ impl<V: Versions + Drop> World<V> {
     fn replace(&mut self, editor: u32, ontology: Arc<Ontology>) -> Result<Reply, OutOfMemory>
         requires { KnowsEvent self.old (event.Replace editor ontology) }
         ensures ok { IfOk result (λ reply. StepsTo self.old (event.Replace editor ontology) reply self.new) }
+        ensures memory { OnErr result (TakesMemory self.old (event.Replace editor ontology)) }
         ensures refused { OnErr result (self.new ≡ self.old) }
     {
         if let Some(_) = self.begun.place_of(editor) {
             return Ok(Reply::AlreadyBegun);
+        }
+        if self.is_full() {
+            return Ok(Reply::HistoryFull(self.history.limit()));
         }
         let rules = Arc::new(self.alloc, Rules::compile(self.alloc, &ontology)?)?;
         match self.history.replace(editor, ontology, rules) {

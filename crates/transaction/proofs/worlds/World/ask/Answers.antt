@@ -2,9 +2,9 @@ use Rattle.std.proofs.Common.{◌≡◌, Err, List, refl, sym, ◌∙◌, ap, su
 use Rattle.dl_base.specs.declared.requests.Request.TheVariants as asked
 use Rattle.dl_base.specs.declared.statements.Fact.{Fact}
 use Rattle.transaction.specs.Holding.{AllBeganIn}
-use Rattle.transaction.specs.Worlds.{State, IsAnswered, IsFilled, IsIllFormed, KnowsEvent}
+use Rattle.transaction.specs.Worlds.{State, HasSpace, IsAnswered, IsFilled, IsIllFormed, KnowsEvent}
 use Rattle.transaction.specs.declared.events.Event.TheVariants as event
-use Rattle.transaction.proofs.WorldLaws.{state_of, knows_at, answered, began_served, filled, ill_formed}
+use Rattle.transaction.proofs.WorldLaws.{state_of, knows_at, answered, began_served, filled, space}
 use Rattle.transaction.proofs.worlds.World.ask.Goals as goal
 
 pub ask-requires-clause-known : goal.ask-requires-clause-known
@@ -40,3 +40,9 @@ invariant_of-self-in-Err-IllFormed g c = subst (AllBeganIn c.self.inside.history
 
 pub invariant_of-self-2 : goal.invariant_of-self-2
 invariant_of-self-2 g c = subst (AllBeganIn c.self.inside.history) (sym c.in-Err-OutOfMemory.ensures.refused) c.self.invariant
+
+pub returns-clause-memory : goal.returns-clause-memory
+returns-clause-memory g c =
+    let w = c.self.inside in
+    let room = space w.history w.begun c.self.invariant c.args.editor c.in-Some.place c.in-Some.ensures.found (λ h e. c.in-Err-OutOfMemory.ensures.memory h e (ap Err c.in-Err-OutOfMemory.field-0-is)) in
+    subst (λ (s : State). HasSpace s c.args.editor (λ b. Unit {0})) c.self.view_is room

@@ -1,13 +1,14 @@
 use Rattle.std.proofs.Common.{◌≡◌, Err, List, refl, sym, ◌∙◌, ap, subst}
 use Rattle.std.specs.Prelude.{All}
 use Rattle.dl_base.specs.Ontologies.{Knows}
+use Rattle.dl_base.specs.Updates.{IsWellFormed}
 use Rattle.dl_base.specs.declared.requests.Request.{Request}
 use Rattle.dl_base.specs.declared.requests.Request.TheVariants as asked
 use Rattle.dl_base.specs.declared.statements.Fact.{Fact}
 use Rattle.transaction.specs.Holding.{AllBeganIn}
-use Rattle.transaction.specs.Worlds.{State, IsAnswered, IsFilled, IsIllFormed, KnowsEvent}
+use Rattle.transaction.specs.Worlds.{State, HasSpace, IsAnswered, IsFilled, IsIllFormed, KnowsEvent, theory_of}
 use Rattle.transaction.specs.declared.events.Event.TheVariants as event
-use Rattle.transaction.proofs.WorldLaws.{state_of, knows_at, answered, began_served, filled, ill_formed}
+use Rattle.transaction.proofs.WorldLaws.{state_of, knows_at, answered, began_served, filled, ill_formed, space_for}
 use Rattle.transaction.proofs.worlds.World.change.Goals as goal
 
 pub change-requires-clause-known : goal.change-requires-clause-known
@@ -60,3 +61,13 @@ returns-in-Err-IllFormed-clause-ok g c =
 
 pub invariant_of-self-2 : goal.invariant_of-self-2
 invariant_of-self-2 g c = subst (AllBeganIn c.self.inside.history) (sym c.in-Err-OutOfMemory.ensures.refused) c.self.invariant
+
+pub returns-clause-memory : goal.returns-clause-memory
+returns-clause-memory g c =
+    let w = c.self.inside in
+    let seen = state_of w.history w.begun in
+    let room = space_for w.history w.begun c.self.invariant c.args.editor c.in-Some.place c.in-Some.ensures.found c.as_slice.result.now c.as_slice-2.result.now
+    (λ h e. c.in-Err-OutOfMemory.ensures.memory h e (ap Err c.in-Err-OutOfMemory.field-0-is)) in
+    subst (λ (s : State). HasSpace s c.args.editor (λ b. IsWellFormed (theory_of s b).axioms c.args.inserts c.args.deletes)) c.self.view_is
+    (subst (λ (fs : List Fact). HasSpace seen c.args.editor (λ b. IsWellFormed (theory_of seen b).axioms fs c.args.deletes)) c.as_slice.ensures
+    (subst (λ (fs : List Fact). HasSpace seen c.args.editor (λ b. IsWellFormed (theory_of seen b).axioms c.as_slice.result.now fs)) c.as_slice-2.ensures room))

@@ -43,7 +43,7 @@ returns-clause-ok g c =
           subst Wanted (sym x.result-is) (seen (outcome.InForce x.in-Replaced.number) h.0)
       | in-Full x ↦
           let h = subst By x.in-Full.is c.replace.ensures in
-          subst Wanted (sym x.result-is) (seen outcome.NoRoom h.0, x.limit.ensures ∙ so.2 ∙ ap (λ (s : State). s.limit) c.self.view_is)
+          subst Wanted (sym x.result-is) (seen outcome.NoRoom h.0, x.limit-in-Full.ensures ∙ so.2 ∙ ap (λ (s : State). s.limit) c.self.view_is)
       | in-Alone x ↦
           let h = subst By x.in-Alone.is c.replace.ensures in
           subst Wanted (sym x.result-is) (seen (outcome.Alone x.in-Alone.fact) h.0)
