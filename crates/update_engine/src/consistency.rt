@@ -83,3 +83,79 @@ fn has_partner<S: FactSet, L: Ledger>(
     }
     Ok(true)
 }
+
+#[cfg(test)]
+mod tests {
+    use super::*;
+    use crate::university::{
+        COURSE, HEAD_OF, Line, MENTORS, PERSON, PROF, STUDENT, TEACHES, facts, university,
+    };
+    use dl_base::PlainSet;
+    use std::marker::Brand;
+    use std::process::Abort;
+    use std::sync::ledger::Blank;
+    use std::test::Fail;
+
+    #[test]
+    fn the_first_clash_is_found_by_look_ups(rt: HostRuntime) -> Result<(), Fail> {
+        let alloc = rt.alloc();
+        let rules = university(alloc)?;
+        let fine: &[Line] = &[
+            (PERSON, "bob", ""),
+            (COURSE, "cs1", ""),
+            (TEACHES, "ann", "cs1"),
+        ];
+        let taught: &[Line] = &[
+            (PERSON, "bob", ""),
+            (STUDENT, "ann", ""),
+            (TEACHES, "ann", "cs1"),
+        ];
+        let headed: &[Line] = &[
+            (PROF, "ann", ""),
+            (HEAD_OF, "ann", "d1"),
+            (HEAD_OF, "ann", "d2"),
+        ];
+        let alone: &[Line] = &[
+            (PROF, "ann", ""),
+            (STUDENT, "ann", ""),
+            (MENTORS, "bob", "bob"),
+        ];
+        for (lines, want) in [
+            (fine, None),
+            (taught, Some(Clash::Pair(1, 2))),
+            (headed, Some(Clash::Pair(1, 2))),
+            (alone, Some(Clash::Alone(2))),
+        ] {
+            assert_eq!(rt; clash_of(&rt, alloc, &rules, lines)?, want);
+        }
+        Ok(())
+    }
+
+    /// The first clash of the facts of these lines, which are known, by places in their order.
+    fn clash_of(
+        rt: &impl Abort,
+        alloc: Global,
+        rules: &Rules,
+        lines: &[Line],
+    ) -> Result<Option<Clash>, OutOfMemory> {
+        let set = PlainSet::of(alloc, facts(alloc, lines)?)?;
+        assert!(rt; rules.knows_all(set.as_slice()));
+        clash_in::<Brand>(alloc, rules, &set, Blank::new(1))
+    }
+
+    fn clash_in<L: Ledger>(
+        alloc: Global,
+        rules: &Rules,
+        set: &PlainSet,
+        blank: Blank,
+    ) -> Result<Option<Clash>, OutOfMemory>
+        requires name { blank.name ≡ L.name }
+        requires parts { blank.parts ≡ L.parts }
+        requires one { blank.parts ≡ 1 }
+        requires known { (f : fact_type.Fact) → Contains set.now f → Knows rules.now f }
+    {
+        let mut steps: Steps<L> = Steps::new(blank);
+        let clash = first_clash_in(alloc, rules, set, set.as_slice(), &mut steps)?;
+        Ok(clash)
+    }
+}
